@@ -1,0 +1,12 @@
+use Rattle.std.proofs.Common.{◌≡◌, ◌<◌, ◌^◌, true, take}
+use Rattle.std.specs.Str.{all_ascii_digits}
+use Rattle.std.specs.Str.Parse.{digits_value}
+use Rattle.asc_grid.proofs.number.number.Given as goal
+
+-- the number of the digits so far
+abbrev pub invariant-loop-byte : goal.invariant-loop-byte
+invariant-loop-byte l = record {
+  digits : all_ascii_digits (take l.byte-index l.text) ≡ true;
+  value : l.value ≡ digits_value 10 (take l.byte-index l.text);
+  small : l.value < 10 ^ l.byte-index;
+}

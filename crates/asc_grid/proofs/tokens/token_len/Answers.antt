@@ -1,0 +1,15 @@
+use Rattle.std.proofs.Common.{◌≡◌, ◌<◌, ◌≤◌, ◌+◌, ℕ, zero, suc, false, get_or, drop, length, arith, refl}
+use Rattle.std.proofs.lemmas.List.{get_or_past}
+use Rattle.std.proofs.lemmas.Grind.{common_steps}
+use Rattle.asc_grid.specs.Tokens.{begins_with_token, is_blank, tokens_of}
+use Rattle.asc_grid.proofs.TokenLemmas.{token_up_to, no_token-drop}
+use Rattle.asc_grid.proofs.tokens.token_len.Goals as goal
+
+pub returns-then-is_blank-clause-first : goal.returns-then-is_blank-clause-first
+returns-then-is_blank-clause-first c = token_up_to c.args.text.now c.loop-at.at c.requires (omega arith) c.loop-at.invariant (no_token-drop c.args.text.now c.loop-at.at (grind (arith, common_steps)))
+
+pub returns-clause-first : goal.returns-clause-first
+returns-clause-first c =
+    let solid : (k : ℕ) → k < length c.args.text.now → is_blank (get_or c.args.text.now k 0) ≡ false = λ k h. c.loop-at.invariant k (omega (arith, h)) in
+    let past : get_or c.args.text.now (length c.args.text.now) 32 ≡ 32 = get_or_past c.args.text.now _ 32 (omega arith) in
+    token_up_to c.args.text.now _ c.requires (omega arith) solid (no_token-drop c.args.text.now _ (rw past refl))

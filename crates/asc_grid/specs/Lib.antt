@@ -1,0 +1,5 @@
+pub mod Canonical
+pub mod Header
+pub mod Plain
+pub mod PlainNumber
+pub mod Tokens

@@ -1,0 +1,9 @@
+//! Reading and writing of ESRI ASCII grids: so far of plain ones, whose header is five keywords in one
+//! order and whose numbers are whole.
+#![tactic(auto)]
+
+mod number;
+mod plain;
+mod tokens;
+
+pub use plain::PlainAsc;
