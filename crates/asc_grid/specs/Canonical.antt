@@ -6,7 +6,7 @@ use Rattle.asc_grid.specs.declared.plain.PlainAsc.{PlainAsc}
 
 -- a keyword, a space, the value and a line end
 abbrev pub header_line : List ℕ → ℤ → List ℕ
-header_line keyword value = keyword ++ 32 ∷ signed_decimal value ++ 10 ∷ []
+header_line keyword value = keyword ++ 32 ∷ (signed_decimal value ++ 10 ∷ [])
 
 -- the five lines of the header
 abbrev pub header_text : PlainAsc → List ℕ
@@ -22,3 +22,8 @@ row_text row = join_with_byte 32 (map signed_decimal row) ++ 10 ∷ []
 -- the header, and a line for each row from the top
 abbrev pub canonical_text : PlainAsc → List ℕ
 canonical_text grid = header_text grid ++ flat_map row_text grid.cells.rows
+
+-- what is left of a row's text where these cells of it are left
+abbrev pub row_rest : List ℤ → List ℕ
+row_rest [] = []
+row_rest (cell ∷ cells) = row_text (cell ∷ cells)

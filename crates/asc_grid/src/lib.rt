@@ -5,5 +5,6 @@
 mod number;
 mod plain;
 mod tokens;
+mod write;
 
-pub use plain::PlainAsc;
+pub use plain::{PlainAsc, read_plain};
