@@ -1,5 +1,5 @@
 -- Digits, one after another.
-use Rattle.std.proofs.Common.{◌≡◌, ℕ, zero, suc, ◌+◌, ◌-◌, ◌*◌, ◌^◌, ◌<◌, ◌≤◌, ◌≢◌, ◌⊎◌, inl, inr, lit<, drop, Bool, true, false, List, [], ◌∷◌, length, take, get_or, arith, refl}
+use Rattle.std.proofs.Common.{◌≡◌, ℕ, zero, suc, ◌-◌, ◌^◌, ◌<◌, ◌≤◌, ◌≢◌, ◌⊎◌, inl, inr, lit<, drop, Bool, true, false, List, [], ◌∷◌, length, take, get_or, arith, refl}
 use Rattle.std.specs.Prelude.{◌&&◌, nat_le, None, option_map, pos, neg_ℤ}
 use Rattle.std.proofs.Math.Nat.{pow-le-pow_right}
 use Rattle.asc_grid.specs.PlainNumber.{number_of, signed_number_of}

@@ -1,7 +1,7 @@
 -- Where tokens begin and end.
-use Rattle.std.proofs.Common.{◌≡◌, ℕ, zero, suc, ◌+◌, ◌<◌, ◌≤◌, Bool, true, false, List, [], ◌∷◌, length, take, drop, get_or, arith, refl, sym, ap, ◌∙◌}
+use Rattle.std.proofs.Common.{◌≡◌, ℕ, zero, suc, ◌<◌, ◌≤◌, true, false, List, [], ◌∷◌, length, take, drop, get_or, arith, refl, sym, ◌∙◌}
 use Rattle.std.proofs.lemmas.Bool.{false≢true}
-use Rattle.asc_grid.specs.Tokens.{Token, is_blank, begins_with_token, joined_to, put_in_front, tokens_of}
+use Rattle.asc_grid.specs.Tokens.{is_blank, begins_with_token, tokens_of}
 
 pub tokens_of-blank : (byte : ℕ) (bytes : List ℕ) → is_blank byte ≡ true → tokens_of (byte ∷ bytes) ≡ tokens_of bytes
 tokens_of-blank byte bytes blank = rw blank refl

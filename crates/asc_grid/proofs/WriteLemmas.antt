@@ -1,11 +1,14 @@
 -- Texts that are appended part by part.
-use Rattle.std.proofs.Common.{◌≡◌, ℕ, zero, suc, false, ◌+◌, ◌<◌, ◌≤◌, ℤ, List, [], ◌∷◌, ◌++◌, length, drop, get_or, refl, sym, ap, ◌∙◌, arith, append-nil, append_assoc}
+use Rattle.std.proofs.Common.{◌≡◌, ℕ, zero, suc, false, ◌<◌, ◌≤◌, ℤ, List, [], ◌∷◌, ◌++◌, length, drop, get_or, refl, sym, ap, ◌∙◌, arith, append-nil, append_assoc}
 use Rattle.std.specs.Prelude.{◌==◌, if◌then◌else◌, map}
-use Rattle.std.specs.List.{join_with_byte}
+use Rattle.std.specs.Prelude.{All, Some, slice_get}
+use Rattle.std.specs.List.{flat_map, join_with_byte}
+use Rattle.std.proofs.lemmas.List.{drop_all}
+use Rattle.std.proofs.lemmas.Option.{none-some, same_Some}
 use Rattle.std.specs.Fmt.{signed_decimal}
 use Rattle.std.proofs.lemmas.Bool.Decides.{nat_tests}
 use Rattle.asc_grid.specs.Appended.{Appends, AppendsPart}
-use Rattle.asc_grid.specs.Canonical.{row_rest}
+use Rattle.asc_grid.specs.Canonical.{row_rest, row_text, rows_rest}
 
 pub appends_nothing : (before text : List ℕ) → Appends before before text text
 appends_nothing before text = ([], refl, sym (append-nil before))
@@ -40,3 +43,39 @@ appends_cell before mid now text cell rest byte first second is =
 -- a cell without what stands behind it
 pub appends_cell_alone : (before mid text cell rest : List ℕ) → mid ≡ before ++ cell → text ≡ cell ++ rest → AppendsPart before mid text
 appends_cell_alone before mid text cell rest first is = (rest, (cell, is, first))
+
+-- the same with more behind it
+pub appends_before : (before now text left more : List ℕ) → Appends before now text left → Appends before now (text ++ more) (left ++ more)
+appends_before before now text left more some = (some.0, ap (λ xs. xs ++ more) some.1 ∙ append_assoc some.0 left more, some.2)
+
+pub appends_part_before : (before now text more : List ℕ) → AppendsPart before now text → AppendsPart before now (text ++ more)
+appends_part_before before now text more some = (some.0 ++ more, appends_before before now text some.0 more some.1)
+
+-- the rest of a row stands before the rows behind it
+pub rows_rest-row : (rows : List (List ℤ)) (row col : ℕ) (cells : List ℤ) → slice_get rows row ≡ Some cells → rows_rest rows row col ≡ row_rest (drop col cells) ++ flat_map row_text (drop (suc row) rows)
+rows_rest-row [] row col cells is = absurd (none-some cells is)
+rows_rest-row (first ∷ rows) zero col cells is = rw (same_Some first cells is) refl
+rows_rest-row (first ∷ rows) (suc row) col cells is = rows_rest-row rows row col cells is
+
+-- from a row's start on the rows' text is whole
+pub rows_rest-start : (ncols : ℕ) (rows : List (List ℤ)) (row : ℕ) → 0 < ncols → All (λ row. length row ≡ ncols) rows → rows_rest rows row 0 ≡ flat_map row_text (drop row rows)
+rows_rest-start ncols [] zero some width = refl
+rows_rest-start ncols [] (suc row) some width = refl
+rows_rest-start ncols ([] ∷ rows) zero some width = absurd (omega (arith, some, width 0 [] (omega arith)))
+rows_rest-start ncols ((cell ∷ cells) ∷ rows) zero some width = refl
+rows_rest-start ncols (first ∷ rows) (suc row) some width = rows_rest-start ncols rows row some (λ k d within. width (suc k) d (omega (arith, within)))
+
+-- a row's end is the next row's start
+pub rows_rest-next : (ncols : ℕ) (rows : List (List ℤ)) (row : ℕ) (cells : List ℤ) → 0 < ncols → All (λ row. length row ≡ ncols) rows → slice_get rows row ≡ Some cells → rows_rest rows row (length cells) ≡ rows_rest rows (suc row) 0
+rows_rest-next ncols rows row cells some width is =
+    rows_rest-row rows row (length cells) cells is ∙ ap (λ xs. row_rest xs ++ flat_map row_text (drop (suc row) rows)) (drop_all (length cells) cells (omega arith)) ∙ sym (rows_rest-start ncols rows (suc row) some width)
+
+-- past the last row nothing is left
+pub rows_rest-end : (rows : List (List ℤ)) (row col : ℕ) → length rows ≤ row → rows_rest rows row col ≡ []
+rows_rest-end [] row col past = refl
+rows_rest-end (first ∷ rows) zero col past = absurd (omega (arith, past))
+rows_rest-end (first ∷ rows) (suc row) col past = rows_rest-end rows row col (omega (arith, past))
+
+-- where nothing is left the text was appended
+pub appends_all : (before now text : List ℕ) → Appends before now text [] → now ≡ before ++ text
+appends_all before now text all = all.2 ∙ ap (λ xs. before ++ xs) (sym (all.1 ∙ append-nil all.0))

@@ -1,5 +1,5 @@
 -- The canonical text of a grid. Source: ESRI ASCII grid; the spelling is this project's own.
-use Rattle.std.specs.Prelude.{ℕ, ℤ, pos, List, [], ◌∷◌, ◌++◌, map, codes}
+use Rattle.std.specs.Prelude.{ℕ, zero, suc, ℤ, pos, drop, List, [], ◌∷◌, ◌++◌, map, codes}
 use Rattle.std.specs.List.{flat_map, join_with_byte}
 use Rattle.std.specs.Fmt.{signed_decimal}
 use Rattle.asc_grid.specs.declared.plain.PlainAsc.{PlainAsc}
@@ -9,7 +9,7 @@ abbrev pub header_line : List ℕ → ℤ → List ℕ
 header_line keyword value = keyword ++ 32 ∷ (signed_decimal value ++ 10 ∷ [])
 
 -- the five lines of the header
-abbrev pub header_text : PlainAsc → List ℕ
+unfoldable pub header_text : PlainAsc → List ℕ
 header_text grid =
     header_line (codes "ncols") (pos grid.ncols) ++ header_line (codes "nrows") (pos grid.nrows)
     ++ header_line (codes "xllcorner") grid.xll ++ header_line (codes "yllcorner") grid.yll
@@ -23,7 +23,13 @@ row_text row = join_with_byte 32 (map signed_decimal row) ++ 10 ∷ []
 abbrev pub canonical_text : PlainAsc → List ℕ
 canonical_text grid = header_text grid ++ flat_map row_text grid.cells.rows
 
--- what is left of a row's text where these cells of it are left
+-- the rest of a row's text, from the first of these cells on
 abbrev pub row_rest : List ℤ → List ℕ
 row_rest [] = []
 row_rest (cell ∷ cells) = row_text (cell ∷ cells)
+
+-- the rest of the rows' text, from a row and a column on
+abbrev pub rows_rest : List (List ℤ) → ℕ → ℕ → List ℕ
+rows_rest [] row col = []
+rows_rest (first ∷ rows) zero col = row_rest (drop col first) ++ flat_map row_text rows
+rows_rest (first ∷ rows) (suc row) col = rows_rest rows row col

@@ -1,5 +1,5 @@
 -- What is known of a header that was read.
-use Rattle.std.specs.Prelude.{ℕ, ℤ, pos, neg_ℤ, ◌*◌, ◌<◌, ◌≤◌, ◌≤ℤ◌, ◌^◌}
+use Rattle.std.specs.Prelude.{pos, neg_ℤ, ◌*◌, ◌<◌, ◌≤◌, ◌≤ℤ◌, ◌^◌}
 use Rattle.cell_base.specs.Raster.{most_cells}
 use Rattle.asc_grid.specs.declared.plain.Header.{Header}
 

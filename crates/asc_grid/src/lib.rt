@@ -8,3 +8,4 @@ mod tokens;
 mod write;
 
 pub use plain::{PlainAsc, read_plain};
+pub use write::{PlainText, write_plain};

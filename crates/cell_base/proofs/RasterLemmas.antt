@@ -5,8 +5,9 @@ use Rattle.std.proofs.lemmas.List.{drop-drop}
 use Rattle.std.proofs.lemmas.Bool.{cases_lt}
 use Rattle.std.proofs.lemmas.Nat.{same_from_place, rows}
 use Rattle.std.proofs.lemmas.Grind.{common_steps}
-use Rattle.std.proofs.lemmas.Option.{gets, slice_get_past}
-use Rattle.cell_base.specs.Raster.{SetsPlace, raster_of, rows_of, value_at}
+use Rattle.std.proofs.lemmas.Option.{gets, get_or_from_slice_get, slice_get_past}
+use Rattle.std.proofs.Math.Nat.{mul-le-mul_right}
+use Rattle.cell_base.specs.Raster.{IsRaster, SetsPlace, raster_of, rows_of, value_at}
 use Rattle.cell_base.specs.Cells.{IsWhole}
 
 pub slice_get-rows_of : {T : Type 0} (ncols nrows : ℕ) (cells : List T) (r : ℕ) → r < nrows → slice_get (rows_of ncols nrows cells) r ≡ Some (take ncols (drop (r * ncols) cells))
@@ -74,3 +75,21 @@ sets_place {T} ncols nrows cells row col v whole in_row in_col =
         | inr out ↦ outside q.0 q.1 (inl out)
       ];
     }
+
+length-row : {T : Type 0} (ncols nrows : ℕ) (cells : List T) (r : ℕ) → IsWhole ncols nrows cells → r < nrows → length (take ncols (drop (r * ncols) cells)) ≡ ncols
+length-row ncols nrows cells r whole within =
+    let more : suc r * ncols ≤ nrows * ncols = mul-le-mul_right ncols within in
+    let enough : r * ncols + ncols ≤ length cells = omega (arith, whole.whole, more) in
+    grind (arith, common_steps, enough)
+
+-- a vector with a value for each cell makes a grid
+pub whole_makes_raster : {T : Type 0} (ncols nrows : ℕ) (cells : List T) → IsWhole ncols nrows cells → IsRaster (raster_of ncols nrows cells)
+whole_makes_raster ncols nrows cells whole = record {
+  some_cols = whole.some_cols;
+  some_rows = whole.some_rows;
+  small = whole.small;
+  height = length-rows_of ncols nrows cells;
+  width = λ k d within.
+      let row : slice_get (rows_of ncols nrows cells) k ≡ Some (take ncols (drop (k * ncols) cells)) = slice_get-rows_of ncols nrows cells k (omega (arith, within, length-rows_of ncols nrows cells)) in
+      rw (get_or_from_slice_get _ k _ d row) (length-row ncols nrows cells k whole (omega (arith, within, length-rows_of ncols nrows cells)));
+}

@@ -1,6 +1,6 @@
 // A grid of values in one flat vector.
 ghost use Rattle.std.specs.Prelude.{◌≡◌, ◌*◌, ◌<◌, ◌≤◌, Some, replicate, IfOk, length, slice_get};
-ghost use Rattle.cell_base.specs.Raster.{SetsPlace, most_cells, raster_of, value_at};
+ghost use Rattle.cell_base.specs.Raster.{IsRaster, SetsPlace, most_cells, raster_of, value_at};
 
 use std::alloc::{AllocError, Global};
 use std::marker::Model;
@@ -63,14 +63,16 @@ impl<T: Copy> Grid<T> {
 
     /// The number of columns.
     pub fn ncols(&self) -> u32
-        ensures { result ≡ self.now.ncols }
+        ensures value { result ≡ self.now.ncols }
+        ensures shape { IsRaster self.now }
     {
         self.ncols
     }
 
     /// The number of rows.
     pub fn nrows(&self) -> u32
-        ensures { result ≡ self.now.nrows }
+        ensures value { result ≡ self.now.nrows }
+        ensures shape { IsRaster self.now }
     {
         self.nrows
     }
@@ -78,7 +80,8 @@ impl<T: Copy> Grid<T> {
     /// The cells of a row, from the left.
     pub fn row(&self, row: u32) -> &[T]
         requires { row < self.now.nrows }
-        ensures { slice_get self.now.rows row ≡ Some result.now }
+        ensures cells { slice_get self.now.rows row ≡ Some result.now }
+        ensures width { length result.now ≡ self.now.ncols }
     {
         let from = row as usize * self.ncols as usize;
         &self.cells[from..from + self.ncols as usize]

@@ -1,7 +1,7 @@
-use Rattle.std.proofs.Common.{◌≡◌, ◌≢◌, ◌⊎◌, ◌^◌, ◌<◌, ℤ, ◌-ℤ◌, pos, neg_ℤ, arith, length, Some, option_map, get_or, sym, ap, ◌∙◌, inl, inr, to_z, of_z, w64, drop}
+use Rattle.std.proofs.Common.{◌≡◌, ◌≢◌, ◌⊎◌, ◌-ℤ◌, pos, neg_ℤ, arith, length, Some, option_map, get_or, sym, ap, ◌∙◌, inl, inr, to_z, of_z, w64, drop}
 use Rattle.std.proofs.lemmas.Int.{ints}
 use Rattle.std.proofs.lemmas.Grind.{common_steps}
-use Rattle.asc_grid.specs.PlainNumber.{number_of, signed_number_of}
+use Rattle.asc_grid.specs.PlainNumber.{number_of}
 use Rattle.asc_grid.proofs.NumberLemmas.{fits, signed_number_of-plus, signed_number_of-minus}
 use Rattle.asc_grid.proofs.number.signed_number.Goals as goal
 use Rattle.asc_grid.proofs.number.signed_number.Goals.{then-is_empty-via-then-is_empty, then-is_empty-via-else-is_empty+then-text-ne45}

@@ -1,7 +1,7 @@
-use Rattle.std.proofs.Common.{◌≡◌, ◌<◌, ◌≤◌, ◌+◌, ℕ, zero, suc, false, get_or, drop, length, arith, refl}
+use Rattle.std.proofs.Common.{◌≡◌, ◌<◌, ℕ, false, get_or, length, arith, refl}
 use Rattle.std.proofs.lemmas.List.{get_or_past}
 use Rattle.std.proofs.lemmas.Grind.{common_steps}
-use Rattle.asc_grid.specs.Tokens.{begins_with_token, is_blank, tokens_of}
+use Rattle.asc_grid.specs.Tokens.{is_blank}
 use Rattle.asc_grid.proofs.TokenLemmas.{token_up_to, no_token-drop}
 use Rattle.asc_grid.proofs.tokens.token_len.Goals as goal
 

@@ -1,9 +1,8 @@
-use Rattle.std.proofs.Common.{◌≡◌, ◌++◌, ◌∷◌, [], ◌+◌, ◌<◌, ℕ, suc, ℤ, List, pos, to_z, of_z, w64, OnErr, drop, length, get_or, add-one, arith, rules, sym, ap, refl, ◌∙◌}
+use Rattle.std.proofs.Common.{◌≡◌, ◌++◌, ◌∷◌, suc, pos, to_z, of_z, w64, drop, length, get_or, add-one, arith, rules}
 use Rattle.std.specs.Prelude.{◌==◌, if◌then◌else◌}
 use Rattle.std.specs.Fmt.{signed_decimal}
-use Rattle.std.proofs.lemmas.Grind.{common_steps}
 use Rattle.std.proofs.lemmas.List.{get_or_default}
-use Rattle.asc_grid.specs.Appended.{Appends, AppendsPart}
+use Rattle.asc_grid.specs.Appended.{AppendsPart}
 use Rattle.asc_grid.specs.Canonical.{row_rest}
 use Rattle.asc_grid.proofs.WriteLemmas.{appends_cell, appends_cell_alone, appends_part_then, appends_then, row_rest-cell}
 use Rattle.asc_grid.proofs.write.append_cells.Goals as goal

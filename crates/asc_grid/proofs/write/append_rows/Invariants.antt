@@ -1,0 +1,11 @@
+use Rattle.std.proofs.Common.{◌<◌}
+use Rattle.asc_grid.specs.Appended.{Appends}
+use Rattle.asc_grid.specs.Canonical.{rows_rest}
+use Rattle.asc_grid.proofs.write.append_rows.Given as goal
+
+-- the rows so far were appended
+abbrev pub invariant-loop-row : goal.invariant-loop-row
+invariant-loop-row l = record {
+  col : l.col < l.cells.ncols;
+  text : Appends l.initial.out.items l.out.items (rows_rest l.cells.rows l.fn.from.row l.fn.from.col) (rows_rest l.cells.rows l.row l.col);
+}
