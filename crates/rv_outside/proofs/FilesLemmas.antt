@@ -1,6 +1,7 @@
 use Rattle.std.proofs.Common.{◌≡◌, ℕ, ◌++◌, List, Option, Some, None, Bool, true, false, refl, ap, ◌∙◌, append_assoc, IfSome, IsSome, option_map, cond}
 use Rattle.std.specs.Str.{bytes_eq}
-use Rattle.rv_outside.specs.Files.{Files, with_appended, Becomes}
+use Rattle.std.proofs.lemmas.Slice.Eq.{bytes_eq-Decides}
+use Rattle.rv_outside.specs.Files.{Files, with_appended, with_file, Becomes}
 
 -- files that stand alike under each name are the same
 pub same_files : (f g : List ℕ → Option (List ℕ)) → ((q : List ℕ) → f q ≡ g q) → f ≡ g
@@ -29,3 +30,21 @@ still_there (Some told) new name piece becomes there = rw becomes (there_still (
     there_still true (Some bytes) is = is
     there_still true None is = is
     there_still false old is = is
+
+bytes_eq-itself : (name : List ℕ) → bytes_eq name name ≡ true
+bytes_eq-itself name = (bytes_eq-Decides name name).1 refl
+
+-- a file that was made is there
+pub made_there : (old new : Option Files) (name bytes : List ℕ) → Becomes old new (with_file name bytes) → IfSome new (λ told. IsSome (told name))
+made_there None new name bytes made = rw made tt
+made_there (Some told) new name bytes made = rw (made, bytes_eq-itself name) refl
+
+made_then_appended : (b : Bool) (old : Option (List ℕ)) (x y : List ℕ) → cond b (option_map (λ bytes. bytes ++ y) (cond b (Some x) old)) (cond b (Some x) old) ≡ cond b (Some (x ++ y)) old
+made_then_appended true old x y = refl
+made_then_appended false old x y = refl
+
+-- a file that was made, and a piece at its end
+pub made_then : (old mid new : Option Files) (name x y : List ℕ) → Becomes old mid (with_file name x) → Becomes mid new (with_appended name y) → Becomes old new (with_file name (x ++ y))
+made_then None mid new name x y first second = rw first at second
+made_then (Some told) mid new name x y first second =
+    (rw first at second) ∙ ap Some (same_files _ _ (λ q. made_then_appended (bytes_eq q name) (told q) x y))

@@ -1,0 +1,34 @@
+use Rattle.std.proofs.Common.{◌≡◌, ◌++◌, List, ℕ, rules, arith, sym, ap, ◌∙◌, append_assoc}
+use Rattle.std.proofs.lemmas.Grind.{common_steps}
+use Rattle.asc_grid.specs.Canonical.{canonical_text}
+use Rattle.rv_outside.proofs.FilesLemmas.{made_then}
+use Rattle.tool_run.proofs.DestLemmas.{IsPartWritten, part_written, more_written}
+use Rattle.tool_run.proofs.sieve.write_dest.Goals as goal
+
+pub returns-in_err-next-clause-err : goal.returns-in_err-next-clause-err
+returns-in_err-next-clause-err g c =
+    let F = g.F.Folder in
+    let inv = c.loop-piece.invariant.written in
+    let part = part_written _ _ c.args.name.now (canonical_text c.args.grid.now) inv.0 c.loop-piece.text inv.1 inv.2 in
+    grind (arith, part)
+
+pub loop-piece-preserved : goal.loop-piece-preserved
+loop-piece-preserved g c =
+    let inv = c.loop-piece.invariant in
+    let piece = c.next.new.piece.items in
+    let left : c.loop-piece.text ≡ piece ++ c.next.new.self = c.in_ok-next.ensures.ok in
+    record {
+      written = (inv.written.0 ++ piece, inv.written.1 ∙ ap (λ xs. inv.written.0 ++ xs) left ∙ sym (append_assoc inv.written.0 piece c.next.new.self), made_then _ _ _ c.args.name.now inv.written.0 piece inv.written.2 (rw c.deref.ensures.value at c.in_ok-append_all.ensures.added));
+      later = search rules;
+      no_read = search rules;
+      no_miss = search rules;
+    }
+
+pub returns-in_err-append_all-clause-err : goal.returns-in_err-append_all-clause-err
+returns-in_err-append_all-clause-err g c =
+    let inv = c.loop-piece.invariant.written in
+    let piece = c.next.new.piece.items in
+    let left : c.loop-piece.text ≡ piece ++ c.next.new.self = c.in_ok-next.ensures.ok in
+    let err = rw c.deref.ensures.value at c.in_err-append_all.ensures.err in
+    let part = more_written _ _ _ c.args.name.now (canonical_text c.args.grid.now) inv.0 piece c.next.new.self err.0 (inv.1 ∙ ap (λ xs. inv.0 ++ xs) left) inv.2 err.2 in
+    grind (arith, part)

@@ -1,0 +1,34 @@
+-- What a lower call's refusal is to a tool.
+use Rattle.std.specs.Prelude.{◌≡◌, ◌⊎◌}
+use Rattle.rv_outside.specs.declared.folder.Trouble.{Trouble}
+use Rattle.rv_outside.specs.declared.folder.Trouble.TheVariants as trouble
+use Rattle.rv_outside.specs.declared.whole.FetchFault.{FetchFault}
+use Rattle.rv_outside.specs.declared.whole.FetchFault.TheVariants as fetch
+use Rattle.tool_run.specs.declared.fault.Role.TheVariants.{Source}
+use Rattle.tool_run.specs.declared.fault.Fault.{Fault}
+use Rattle.tool_run.specs.declared.fault.Fault.TheVariants.{Missing, ReadFault, WriteFault, NotBuilt, NoMemory}
+
+-- the fault of a source that could not be read whole
+abbrev pub of_fetch : FetchFault → Fault
+of_fetch fetch.Missing = Missing Source
+of_fetch fetch.Fault = ReadFault Source
+of_fetch fetch.NoMemory = NoMemory
+
+-- the fault of a destination that could not be written
+abbrev pub of_write : Trouble → Fault
+of_write trouble.Failed = WriteFault
+of_write trouble.NoMemory = NoMemory
+
+-- a fault that a source can have
+abbrev pub IsSourceFault : Fault → Type 0
+IsSourceFault (Missing Source) = Unit {0}
+IsSourceFault (ReadFault Source) = Unit {0}
+IsSourceFault NotBuilt = Unit {0}
+IsSourceFault NoMemory = Unit {0}
+IsSourceFault fault = ⊥
+
+-- a fault that a destination can have
+abbrev pub IsWriteFault : Fault → Type 0
+IsWriteFault WriteFault = Unit {0}
+IsWriteFault NoMemory = Unit {0}
+IsWriteFault fault = ⊥

@@ -1,0 +1,5 @@
+pub mod Fault
+pub mod Message
+pub mod Outcome
+pub mod Status
+pub mod Words

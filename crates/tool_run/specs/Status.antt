@@ -1,0 +1,40 @@
+-- The status of a run.
+use Rattle.std.specs.Prelude.{ℕ}
+use Rattle.std.specs.declared.result.Result.{Result}
+use Rattle.std.specs.Prelude.{Ok, Err}
+use Rattle.tool_run.specs.declared.status.Status.{Status}
+use Rattle.tool_run.specs.declared.status.Status.TheVariants.{Done, Usage, BadInput, Missing, ReadFault, WriteFault, NoMemory, TooLarge, NotBuilt}
+use Rattle.tool_run.specs.declared.fault.Fault.{Fault}
+use Rattle.tool_run.specs.declared.fault.Fault.TheVariants as fault
+
+-- the number that the program ends with
+abbrev pub number_of : Status → ℕ
+number_of Done = 0
+number_of Usage = 1
+number_of BadInput = 2
+number_of Missing = 3
+number_of ReadFault = 4
+number_of WriteFault = 5
+number_of NoMemory = 6
+number_of TooLarge = 7
+number_of NotBuilt = 8
+
+-- the status of a fault
+abbrev pub status_of_fault : Fault → Status
+status_of_fault (fault.Missing role) = Missing
+status_of_fault (fault.ReadFault role) = ReadFault
+status_of_fault fault.WriteFault = WriteFault
+status_of_fault fault.NotBuilt = NotBuilt
+status_of_fault fault.NoMemory = NoMemory
+
+-- the status of a tool's answer
+abbrev pub status_of : Result (Unit {0}) Fault → Status
+status_of (Ok _) = Done
+status_of (Err fault) = status_of_fault fault
+
+-- neither a call of the outside nor memory cut the run off
+abbrev pub IsDecided : Status → Type 0
+IsDecided ReadFault = ⊥
+IsDecided WriteFault = ⊥
+IsDecided NoMemory = ⊥
+IsDecided status = Unit {0}
