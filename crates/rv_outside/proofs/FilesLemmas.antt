@@ -31,7 +31,7 @@ still_there (Some told) new name piece becomes there = rw becomes (there_still (
     there_still true None is = is
     there_still false old is = is
 
-bytes_eq-itself : (name : List ℕ) → bytes_eq name name ≡ true
+pub bytes_eq-itself : (name : List ℕ) → bytes_eq name name ≡ true
 bytes_eq-itself name = (bytes_eq-Decides name name).1 refl
 
 -- a file that was made is there

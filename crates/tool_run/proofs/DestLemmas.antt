@@ -1,9 +1,20 @@
 -- What a destination holds while it is written.
-use Rattle.std.proofs.Common.{◌≡◌, ◌⊎◌, inr, ℕ, ◌≤◌, List, ◌++◌, length, take, drop, Option, arith, sym, ap, ◌∙◌, append_assoc}
+use Rattle.std.proofs.Common.{◌≡◌, ◌⊎◌, ◌≢◌, Ok, Err, OnErr, inl, inr, true, refl, IfSome, Some, None, ℕ, ◌≤◌, List, ◌++◌, length, take, drop, Option, arith, append_assoc}
 use Rattle.std.proofs.lemmas.List.{take-append-drop}
 use Rattle.std.proofs.lemmas.Grind.{common_steps}
 use Rattle.rv_outside.specs.Files.{Files, Becomes, with_appended, with_file}
-use Rattle.rv_outside.proofs.FilesLemmas.{made_then}
+use Rattle.std.specs.Prelude.{nat_le}
+use Rattle.std.proofs.lemmas.Bool.Decides.{nat_tests}
+use Rattle.rv_outside.proofs.FilesLemmas.{bytes_eq-itself, made_then}
+use Rattle.asc_grid.specs.Canonical.{canonical_text}
+use Rattle.asc_grid.specs.declared.plain.PlainAsc.{PlainAsc}
+use Rattle.std.specs.declared.result.Result.{Result}
+use Rattle.tool_run.specs.Outcome.{LeavesPart, Outcome, of_grid, of_source, outcome, sieve_outcome}
+use Rattle.tool_run.specs.Status.{status_of}
+use Rattle.tool_run.specs.Words.{Text, begins_with_tool, dest_of, sieve_job_of}
+use Rattle.tool_run.specs.declared.fault.Fault.{Fault}
+use Rattle.tool_run.specs.declared.status.Status.TheVariants.{Done}
+use Rattle.tool_run.specs.declared.words.SieveJob.{SieveJob}
 
 take_of-append : (done rest : List ℕ) → take (length done) (done ++ rest) ≡ done
 take_of-append done rest = grind (arith, common_steps)
@@ -23,3 +34,23 @@ more_written old mid new name text done piece rest n is written added =
     let pieces : take n piece ++ drop n piece ≡ piece = take-append-drop n piece in
     let parts : text ≡ (done ++ take n piece) ++ (drop n piece ++ rest) = grind (arith, common_steps, is, pieces, append_assoc) in
     part_written old new name text (done ++ take n piece) (drop n piece ++ rest) parts (made_then old mid new name done (take n piece) written added)
+
+in_part : (expected : Outcome) (dest : List ℕ) (files : Files) (grid : PlainAsc) (new : Option Files) → expected ≡ of_grid dest files (Some grid) → IsPartWritten (Some files) new dest (canonical_text grid) → LeavesPart expected dest files new
+in_part expected dest files grid new is part = rw is (elim part [
+  | inl same ↦ inl same
+  | inr written ↦ inr (canonical_text grid, written.0, refl, rw (bytes_eq-itself dest) refl, written.1)
+])
+
+-- where a source with a grid was read, the destination holds a part of its text
+pub leaves_part : (old new : Option Files) (job : SieveJob) (grid : PlainAsc) → job.st ≤ 1 → IfSome old (λ files. (dest : List ℕ) → of_source dest files (files job.source) ≡ of_grid dest files (Some grid)) → IsPartWritten old new job.dest (canonical_text grid) → IfSome old (λ files. LeavesPart (sieve_outcome job files) job.dest files new)
+leaves_part None new job grid low read part = tt
+leaves_part (Some files) new job grid low read part =
+    let built : nat_le job.st 1 ≡ true = grind (arith, nat_tests, low) in
+    let is : sieve_outcome job files ≡ of_grid job.dest files (Some grid) = rw built (read job.dest) in
+    in_part (sieve_outcome job files) job.dest files grid new is part
+
+-- the same of the words that have the job
+pub run_leaves_part : (old new : Option Files) (words : List Text) (job : SieveJob) (answer : Result (Unit {0}) Fault) → begins_with_tool words ≡ true → sieve_job_of words ≡ Some job → status_of answer ≢ Done → OnErr answer (IfSome old (λ files. LeavesPart (sieve_outcome job files) job.dest files new)) → IfSome old (λ files. LeavesPart (outcome words files) (dest_of words) files new)
+run_leaves_part old new words job (Ok u) tool has not_done part = absurd (not_done refl)
+run_leaves_part None new words job (Err fault) tool has not_done part = tt
+run_leaves_part (Some files) new words job (Err fault) tool has not_done part = rw (tool, has) part

@@ -1,1 +1,3 @@
 pub mod DestLemmas
+pub mod WordsLemmas
+pub mod MessageLemmas

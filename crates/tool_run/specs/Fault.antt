@@ -1,10 +1,9 @@
 -- What a lower call's refusal is to a tool.
-use Rattle.std.specs.Prelude.{◌≡◌, ◌⊎◌}
 use Rattle.rv_outside.specs.declared.folder.Trouble.{Trouble}
 use Rattle.rv_outside.specs.declared.folder.Trouble.TheVariants as trouble
 use Rattle.rv_outside.specs.declared.whole.FetchFault.{FetchFault}
 use Rattle.rv_outside.specs.declared.whole.FetchFault.TheVariants as fetch
-use Rattle.tool_run.specs.declared.fault.Role.TheVariants.{Source}
+use Rattle.tool_run.specs.declared.fault.Role.TheVariants.{Source, Mask}
 use Rattle.tool_run.specs.declared.fault.Fault.{Fault}
 use Rattle.tool_run.specs.declared.fault.Fault.TheVariants.{Missing, ReadFault, WriteFault, NotBuilt, NoMemory}
 
@@ -32,3 +31,9 @@ abbrev pub IsWriteFault : Fault → Type 0
 IsWriteFault WriteFault = Unit {0}
 IsWriteFault NoMemory = Unit {0}
 IsWriteFault fault = ⊥
+
+-- a fault that a sieve can have, which reads no mask yet
+abbrev pub IsSieveFault : Fault → Type 0
+IsSieveFault (Missing Mask) = ⊥
+IsSieveFault (ReadFault Mask) = ⊥
+IsSieveFault fault = Unit {0}

@@ -2,27 +2,40 @@
 use Rattle.std.specs.Prelude.{ℕ, List, [], ◌∷◌, ◌++◌, Option, Some, None, codes}
 use Rattle.tool_run.specs.Words.{Text, sieve_job_of}
 use Rattle.tool_run.specs.declared.words.SieveJob.{SieveJob}
+use Rattle.tool_run.specs.declared.read_words.WordsFault.{WordsFault}
+use Rattle.tool_run.specs.declared.read_words.WordsFault.TheVariants as fault
 use Rattle.tool_run.specs.declared.status.Status.{Status}
-use Rattle.tool_run.specs.declared.status.Status.TheVariants.{Done, Usage, BadInput, Missing, ReadFault, WriteFault, NoMemory, TooLarge, NotBuilt}
+use Rattle.tool_run.specs.declared.status.Status.TheVariants.{Usage, Missing, ReadFault, WriteFault, NoMemory, NotBuilt}
 
--- the line of words without a tool's name in the first place
+-- the line of refused words
+abbrev pub line_of_words : WordsFault → List ℕ
+line_of_words fault.NoTool = codes "gdal_tools: no tool at word 1\n"
+line_of_words fault.UnknownTool = codes "gdal_tools: unknown tool at word 1\n"
+line_of_words fault.NotBuilt = codes "not built\n"
+line_of_words fault.NoMemory = codes "out of memory\n"
+
+-- the line of a job that ended so, none where it was done
+abbrev pub line_of_job : SieveJob → Status → List ℕ
+line_of_job job Missing = job.source ++ codes ": no such file\n"
+line_of_job job ReadFault = job.source ++ codes ": read failed\n"
+line_of_job job WriteFault = job.dest ++ codes ": write failed\n"
+line_of_job job NoMemory = codes "out of memory\n"
+line_of_job job NotBuilt = codes "not built\n"
+line_of_job job status = []
+
+-- the line of words whose first is no tool's name
 abbrev pub usage_line : List Text → List ℕ
-usage_line [] = codes "gdal_tools: no tool at word 1\n"
-usage_line (word ∷ words) = codes "gdal_tools: unknown tool at word 1\n"
+usage_line [] = line_of_words fault.NoTool
+usage_line (word ∷ words) = line_of_words fault.UnknownTool
 
--- a name, and what befell it
-abbrev pub named_line : (SieveJob → Text) → Option SieveJob → List ℕ → List ℕ
-named_line name None text = text
-named_line name (Some job) text = name job ++ text
+-- the line of a run whose words have this job, or none
+abbrev pub line_of : Option SieveJob → Status → List ℕ
+line_of None NotBuilt = line_of_words fault.NotBuilt
+line_of None NoMemory = line_of_words fault.NoMemory
+line_of None status = []
+line_of (Some job) status = line_of_job job status
 
--- the line for a status, none for Done
+-- the line of a run
 abbrev pub message : List Text → Status → List ℕ
-message words Done = []
 message words Usage = usage_line words
-message words Missing = named_line (λ job. job.source) (sieve_job_of words) (codes ": no such file\n")
-message words ReadFault = named_line (λ job. job.source) (sieve_job_of words) (codes ": read failed\n")
-message words WriteFault = named_line (λ job. job.dest) (sieve_job_of words) (codes ": write failed\n")
-message words NoMemory = codes "out of memory\n"
-message words NotBuilt = codes "not built\n"
-message words BadInput = []
-message words TooLarge = []
+message words status = line_of (sieve_job_of words) status

@@ -1,5 +1,5 @@
 -- What a run is to do. Source: this project's own; that a threshold of at most 1 changes no cell is the GDAL manual's.
-use Rattle.std.specs.Prelude.{◌≡◌, ◌⊎◌, ℕ, nat_le, not, Bool, List, Option, Some, None, take, if◌then◌else◌}
+use Rattle.std.specs.Prelude.{◌≡◌, ◌⊎◌, ℕ, nat_le, List, Option, Some, None, take, if◌then◌else◌}
 use Rattle.rv_outside.specs.Files.{Files, with_file}
 use Rattle.asc_grid.specs.Plain.{plain_grid_of}
 use Rattle.asc_grid.specs.Canonical.{canonical_text}
@@ -41,6 +41,10 @@ of_job files (Some job) = sieve_outcome job files
 abbrev pub outcome : List Text → Files → Outcome
 outcome words files = if begins_with_tool words then of_job files (sieve_job_of words) else refusal Usage files
 
+-- the job is one that can be done
+abbrev pub IsDone : Outcome → Type 0
+IsDone expected = expected.status ≡ Done
+
 -- the run came to this outcome
 abbrev pub Meets : Outcome → Status → Option Files → Type 0
 Meets expected status now = (status ≡ expected.status) × (now ≡ Some expected.files)
@@ -48,4 +52,4 @@ Meets expected status now = (status ≡ expected.status) × (now ≡ Some expect
 -- the files are as before, or the outcome is Done and the destination holds a first part of its bytes
 abbrev pub LeavesPart : Outcome → Text → Files → Option Files → Type 0
 LeavesPart expected dest files now =
-    (now ≡ Some files) ⊎ ((bytes : List ℕ) × (n : ℕ) × (expected.status ≡ Done) × (expected.files dest ≡ Some bytes) × (now ≡ Some (with_file dest (take n bytes) files)))
+    (now ≡ Some files) ⊎ ((bytes : List ℕ) × (n : ℕ) × IsDone expected × (expected.files dest ≡ Some bytes) × (now ≡ Some (with_file dest (take n bytes) files)))

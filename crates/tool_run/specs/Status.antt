@@ -6,6 +6,8 @@ use Rattle.tool_run.specs.declared.status.Status.{Status}
 use Rattle.tool_run.specs.declared.status.Status.TheVariants.{Done, Usage, BadInput, Missing, ReadFault, WriteFault, NoMemory, TooLarge, NotBuilt}
 use Rattle.tool_run.specs.declared.fault.Fault.{Fault}
 use Rattle.tool_run.specs.declared.fault.Fault.TheVariants as fault
+use Rattle.tool_run.specs.declared.read_words.WordsFault.{WordsFault}
+use Rattle.tool_run.specs.declared.read_words.WordsFault.TheVariants as words
 
 -- the number that the program ends with
 abbrev pub number_of : Status → ℕ
@@ -38,3 +40,10 @@ IsDecided ReadFault = ⊥
 IsDecided WriteFault = ⊥
 IsDecided NoMemory = ⊥
 IsDecided status = Unit {0}
+
+-- the status of refused words
+abbrev pub status_of_words : WordsFault → Status
+status_of_words words.NoTool = Usage
+status_of_words words.UnknownTool = Usage
+status_of_words words.NotBuilt = NotBuilt
+status_of_words words.NoMemory = NoMemory

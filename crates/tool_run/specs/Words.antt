@@ -1,5 +1,5 @@
 -- The words of the program. Source: the GDAL manuals; the forms that are built so far are this project's own.
-use Rattle.std.specs.Prelude.{ℕ, ◌==◌, ◌&&◌, ◌||◌, nat_le, not, Bool, true, false, List, [], ◌∷◌, length, slice_index, Option, Some, None, if◌then◌else◌, codes}
+use Rattle.std.specs.Prelude.{ℕ, ◌==◌, ◌&&◌, ◌||◌, nat_le, not, Bool, false, List, [], ◌∷◌, length, slice_index, Option, Some, None, option_map, unwrap_or, if◌then◌else◌, codes}
 use Rattle.std.specs.Str.{bytes_eq}
 use Rattle.tool_run.specs.declared.words.SieveJob.{SieveJob}
 use Rattle.tool_run.specs.declared.words.MaskFrom.TheVariants.{Nodata}
@@ -20,10 +20,17 @@ begins_with_tool (word ∷ words) = is_tool word
 abbrev pub is_option : Text → Bool
 is_option word = nat_le 2 (length word) && (slice_index word 0 == 45)
 
+-- five words are `gdal_sieve -st 1` and two names
+abbrev pub is_sieve_form : Text → Text → Text → Text → Text → Bool
+is_sieve_form tool option threshold source dest =
+    bytes_eq tool (codes "gdal_sieve") && bytes_eq option (codes "-st") && bytes_eq threshold (codes "1") && not (is_option source) && not (is_option dest)
+
 -- the job of the words `gdal_sieve -st 1 SOURCE DESTINATION`, if the words are these
 abbrev pub sieve_job_of : List Text → Option SieveJob
 sieve_job_of (tool ∷ option ∷ threshold ∷ source ∷ dest ∷ []) =
-    if bytes_eq tool (codes "gdal_sieve") && bytes_eq option (codes "-st") && bytes_eq threshold (codes "1") && not (is_option source) && not (is_option dest)
-    then Some (record { source = source; dest = dest; st = 1; eight = false; mask = Nodata })
-    else None
+    if is_sieve_form tool option threshold source dest then Some (record { source = source; dest = dest; st = 1; eight = false; mask = Nodata }) else None
 sieve_job_of words = None
+
+-- the destination of the words, where they have a job
+abbrev pub dest_of : List Text → Text
+dest_of words = unwrap_or (option_map (λ job. job.dest) (sieve_job_of words)) []

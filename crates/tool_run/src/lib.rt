@@ -6,10 +6,15 @@
 #![tactic(auto)]
 
 mod fault;
+mod message;
+mod program;
+mod read_words;
 mod sieve;
 mod status;
 mod words;
 
 pub use fault::{Fault, Role};
+pub use program::run;
+pub use sieve::sieve_tool;
 pub use status::Status;
 pub use words::{MaskFrom, Name, SieveJob, Words};

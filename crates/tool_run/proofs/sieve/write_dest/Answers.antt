@@ -1,8 +1,7 @@
-use Rattle.std.proofs.Common.{◌≡◌, ◌++◌, List, ℕ, rules, arith, sym, ap, ◌∙◌, append_assoc}
-use Rattle.std.proofs.lemmas.Grind.{common_steps}
+use Rattle.std.proofs.Common.{◌≡◌, ◌++◌, rules, arith, sym, ap, ◌∙◌, append_assoc}
 use Rattle.asc_grid.specs.Canonical.{canonical_text}
 use Rattle.rv_outside.proofs.FilesLemmas.{made_then}
-use Rattle.tool_run.proofs.DestLemmas.{IsPartWritten, part_written, more_written}
+use Rattle.tool_run.proofs.DestLemmas.{part_written, more_written}
 use Rattle.tool_run.proofs.sieve.write_dest.Goals as goal
 
 pub returns-in_err-next-clause-err : goal.returns-in_err-next-clause-err
