@@ -1,2 +1,5 @@
 pub mod Raster
 pub mod Cells
+pub mod Steps
+pub mod Walk
+pub mod Valid

@@ -1,0 +1,5 @@
+pub mod Order
+pub mod Component
+pub mod Labelling
+pub mod Fill
+pub mod Sizes
