@@ -1,3 +1,4 @@
+pub mod RasterLemmas
 pub mod StepsLemmas
 pub mod WalkLemmas
 pub mod PlaceLemmas

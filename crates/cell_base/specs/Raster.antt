@@ -1,5 +1,5 @@
 -- A grid of values as contracts see it, and its places.
-use Rattle.std.specs.Prelude.{◌≡◌, ◌≢◌, ◌⊎◌, ℕ, zero, suc, ◌*◌, ◌<◌, ◌≤◌, List, [], ◌∷◌, Option, Some, length, take, drop, slice_get, unwrap_or, All}
+use Rattle.std.specs.Prelude.{◌≡◌, ◌≢◌, ℕ, zero, suc, ◌*◌, ◌<◌, ◌≤◌, List, [], ◌∷◌, Option, Some, length, take, drop, slice_get, unwrap_or, All}
 
 -- a place of a grid: its row, counted from the top, and its column, counted from the left
 abbrev pub Place : Type 0

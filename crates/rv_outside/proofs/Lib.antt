@@ -1,0 +1,3 @@
+pub mod FetchLemmas
+pub mod FilesLemmas
+pub mod WrittenLemmas

@@ -1,0 +1,22 @@
+//! The outside as the program sees it: a folder of files, and a sink that takes text.
+//!
+//! `Folder` and `Sink` say what a call may answer and what it changes. `MemoryFolder` and `MemorySink`
+//! tell what they hold, so that contracts can speak of it; `HostFolder` and `StdSink` are the real
+//! thing, and tell nothing.
+#![tactic(auto)]
+
+mod folder;
+mod host_folder;
+mod memory_folder;
+mod memory_sink;
+mod sink;
+mod std_sink;
+mod whole;
+
+pub use folder::{Folder, Taken, Trouble};
+pub use host_folder::HostFolder;
+pub use memory_folder::{Call, MemoryFolder};
+pub use memory_sink::MemorySink;
+pub use sink::Sink;
+pub use std_sink::StdSink;
+pub use whole::{FetchFault, append_all, read_whole, say};

@@ -1,0 +1,187 @@
+// A folder in memory.
+ghost use Rattle.std.specs.Prelude.{◌≡◌, ◌∷◌, ◌++◌, [], ◌≤◌, ◌<◌, ◌↔◌, ◌+◌, Some, None, Contains, IfNone, IfSome, IsSome, IsTrue, OnErr, OnOk, drop, length, take};
+ghost use Rattle.rv_outside.specs.Files.{with_file, with_appended};
+ghost use Rattle.rv_outside.specs.Kept.{kept_files};
+
+use crate::{Folder, Taken, Trouble};
+use std::alloc::{AllocError, Global};
+use std::collections::BTreeMap;
+
+/// A kind of call that can be made to fail.
+#[derive(Clone, Copy, Debug, PartialEq, Eq)]
+pub enum Call {
+    Read,
+    Create,
+    Append,
+}
+
+/// A folder that keeps its files in memory and tells them. Its calls can be made to fail.
+#[derive(Drop)]
+pub struct MemoryFolder {
+    alloc: Global,
+    files: BTreeMap<String, Vec<u8>>,
+    // which calls of which kind are to fail, counted from 1
+    failing: Vec<(Call, u64)>,
+    reads: u64,
+    creates: u64,
+    appends: u64,
+    read_faults: u64,
+    write_faults: u64,
+    missing: u64,
+}
+
+impl MemoryFolder {
+    ghost use Rattle.rv_outside.specs.MemoryFolder.{memory_files, failing_calls};
+
+    /// A folder without files. It takes no memory.
+    pub fn new(alloc: Global) -> MemoryFolder
+        ensures empty { (name : _) → memory_files result name ≡ None }
+        ensures sound { failing_calls result ≡ [] }
+    {
+        MemoryFolder {
+            alloc,
+            files: BTreeMap::new(alloc),
+            failing: Vec::new(alloc),
+            reads: 0,
+            creates: 0,
+            appends: 0,
+            read_faults: 0,
+            write_faults: 0,
+            missing: 0,
+        }
+    }
+
+    /// Puts a file into the folder, in the place of one of that name. The only error is want of memory, and
+    /// it changes nothing.
+    pub fn put_file(&mut self, name: &str, bytes: &[u8]) -> Result<(), AllocError>
+        ensures put { OnOk result (memory_files self.new ≡ with_file name.now bytes.now (memory_files self.old)) }
+        ensures err { OnErr result (memory_files self.new ≡ memory_files self.old) }
+        ensures same { failing_calls self.new ≡ failing_calls self.old }
+    {
+        put(self.alloc, &mut self.files, name, bytes)
+    }
+
+    /// The bytes of a file; none exactly where no file has the name.
+    pub fn file(&self, name: &str) -> Option<&[u8]>
+        ensures found { IfSome result (λ bytes. memory_files self.now name.now ≡ Some bytes.now) }
+        ensures none { IfNone result (memory_files self.now name.now ≡ None) }
+    {
+        match self.files.get(name) {
+            Some(bytes) => Some(bytes.as_slice()),
+            None => None,
+        }
+    }
+
+    /// Lets the n-th call of a kind fail, counted from 1 since the folder was made. The only error is want
+    /// of memory, and it changes nothing.
+    pub fn fail(&mut self, call: Call, n: u64) -> Result<(), AllocError>
+        ensures fails { OnOk result (failing_calls self.new ≡ failing_calls self.old ++ (call, n) ∷ []) }
+        ensures same { memory_files self.new ≡ memory_files self.old }
+        ensures err { OnErr result (failing_calls self.new ≡ failing_calls self.old) }
+    {
+        self.failing.push((call, n))?;
+        Ok(())
+    }
+}
+
+// Both of these change the map by itself, so that a refusal is seen to leave it as it was.
+fn put(
+    alloc: Global,
+    files: &mut BTreeMap<String, Vec<u8>>,
+    name: &str,
+    bytes: &[u8],
+) -> Result<(), AllocError>
+    ensures put { OnOk result (kept_files files.new ≡ with_file name.now bytes.now (kept_files files.old)) }
+    ensures err { OnErr result (kept_files files.new ≡ kept_files files.old) }
+{
+    let name = String::from_str(alloc, name)?;
+    let bytes = bytes.to_vec(alloc)?;
+    files.insert(name, bytes)?;
+    Ok(())
+}
+
+fn grow(files: &mut BTreeMap<String, Vec<u8>>, name: &str, piece: &[u8]) -> Result<(), AllocError>
+    requires { IsSome (kept_files files.old name.now) }
+    ensures grown { OnOk result (kept_files files.new ≡ with_appended name.now piece.now (kept_files files.old)) }
+    ensures err { OnErr result (kept_files files.new ≡ kept_files files.old) }
+{
+    let bytes = files.get_mut(name).unwrap();
+    bytes.extend_from_slice(piece)?;
+    Ok(())
+}
+
+fn is_to_fail(failing: &[(Call, u64)], call: Call, count: u64) -> bool
+    ensures { IsTrue result ↔ Contains failing.now (call, count) }
+{
+    failing.contains(&(call, count))
+}
+
+// Copies what a file has from a place on, as far as the buffer goes.
+fn copy_piece(bytes: &[u8], at: usize, into: &mut [u8]) -> usize
+    requires some { 0 < length into.old }
+    requires there { at < length bytes.now }
+    ensures within { (0 < result) × (result ≤ length into.new) × (at + result ≤ length bytes.now) }
+    ensures copied { take result into.new ≡ take result (drop at bytes.now) }
+{
+    let count = into.len().min(bytes.len() - at);
+    into[..count].copy_from_slice(&bytes[at..at + count]);
+    count
+}
+
+impl Folder for MemoryFolder {
+    ghost use Rattle.rv_outside.specs.MemoryFolder.{memory_files};
+
+    ghost files = { λ s. Some (memory_files s) };
+
+    ghost read_faults = { λ s. s.read_faults };
+
+    ghost write_faults = { λ s. s.write_faults };
+
+    ghost missing = { λ s. s.missing };
+
+    fn read_at(&mut self, name: &str, at: u64, into: &mut [u8]) -> Result<Taken, Trouble> {
+        self.reads = self.reads.saturating_add(1);
+        if is_to_fail(&self.failing, Call::Read, self.reads) {
+            self.read_faults = self.read_faults.saturating_add(1);
+            return Err(Trouble::Failed);
+        }
+        match self.files.get(name) {
+            None => {
+                self.missing = self.missing.saturating_add(1);
+                Ok(Taken::Missing)
+            }
+            Some(bytes) => {
+                let at = at as usize;
+                if at >= bytes.len() {
+                    Ok(Taken::End)
+                } else {
+                    Ok(Taken::Bytes(copy_piece(bytes, at, into)))
+                }
+            }
+        }
+    }
+
+    fn create(&mut self, name: &str) -> Result<(), Trouble> {
+        self.creates = self.creates.saturating_add(1);
+        if is_to_fail(&self.failing, Call::Create, self.creates) {
+            self.write_faults = self.write_faults.saturating_add(1);
+            return Err(Trouble::Failed);
+        }
+        match put(self.alloc, &mut self.files, name, &[]) {
+            Ok(()) => Ok(()),
+            Err(_) => Err(Trouble::NoMemory),
+        }
+    }
+
+    fn append(&mut self, name: &str, piece: &[u8]) -> Result<usize, Trouble> {
+        self.appends = self.appends.saturating_add(1);
+        if is_to_fail(&self.failing, Call::Append, self.appends) {
+            self.write_faults = self.write_faults.saturating_add(1);
+            return Err(Trouble::Failed);
+        }
+        match grow(&mut self.files, name, piece) {
+            Ok(()) => Ok(piece.len()),
+            Err(_) => Err(Trouble::NoMemory),
+        }
+    }
+}
