@@ -2,3 +2,5 @@ pub mod RasterLemmas
 pub mod StepsLemmas
 pub mod WalkLemmas
 pub mod PlaceLemmas
+pub mod OrderLemmas
+pub mod MaskLemmas

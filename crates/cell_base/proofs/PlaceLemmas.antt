@@ -1,10 +1,14 @@
-use Rattle.std.proofs.Common.{◌≡◌, ℕ, zero, suc, ◌<◌, ◌≤◌, inl, inr, List, [], ◌∷◌, Some, None, length, take, drop, get_or, ap, sym, ◌∙◌, arith}
+use Rattle.std.proofs.Common.{◌≡◌, ℕ, zero, suc, ◌*◌, ◌<◌, ◌≤◌, inl, inr, List, [], ◌∷◌, Some, None, length, length-take, length-drop, take, drop, get_or, ap, sym, ◌∙◌, arith}
 use Rattle.std.specs.Prelude.{All, slice_get, unwrap_or}
 use Rattle.std.proofs.lemmas.Bool.{cases_lt}
 use Rattle.std.proofs.lemmas.List.{get_or_past}
 use Rattle.std.proofs.lemmas.List.Elements.{All-take, All-drop}
 use Rattle.std.proofs.lemmas.Option.{slice_get_within, unwrap_or-slice_get, get_or_from_slice_get}
-use Rattle.cell_base.specs.Raster.{Place, Raster, IsInside, IsRaster, rows_of, value_at}
+use Rattle.std.proofs.lemmas.List.Elements.{All-nil, All-cons}
+use Rattle.std.proofs.lemmas.Grind.{common_steps}
+use Rattle.cell_base.specs.Raster.{Place, Raster, IsInside, IsRaster, raster_of, rows_of, value_at}
+use Rattle.cell_base.specs.Cells.{IsWhole}
+use Rattle.cell_base.proofs.RasterLemmas.{length-rows_of}
 
 no_value : {T : Type 0} (place : ℕ) (v : T) → slice_get {X = T} [] place ≡ Some v → ⊥
 no_value place v is = cc
@@ -27,3 +31,18 @@ rows_hold P ncols (suc nrows) cells zero col v all is =
     let value : get_or (take ncols cells) col v ≡ v = get_or_from_slice_get (take ncols cells) col v v is in
     rw value at (All-take P ncols cells all col v within)
 rows_hold P ncols (suc nrows) cells (suc row) col v all is = rows_hold P ncols nrows (drop ncols cells) row col v (All-drop P ncols cells all) is
+
+rows_wide : {T : Type 0} (ncols nrows : ℕ) (cells : List T) → length cells ≡ ncols * nrows → All (λ row. length row ≡ ncols) (rows_of ncols nrows cells)
+rows_wide ncols zero cells whole = All-nil (λ row. length row ≡ ncols)
+rows_wide ncols (suc n) cells whole =
+    All-cons (λ row. length row ≡ ncols) (take ncols cells) (rows_of ncols n (drop ncols cells)) (omega (arith, length-take ncols cells)) (rows_wide ncols n (drop ncols cells) (omega (arith, length-drop ncols cells)))
+
+-- the grid of a whole list of cells is whole
+pub raster_whole : {T : Type 0} (ncols nrows : ℕ) (cells : List T) → IsWhole ncols nrows cells → IsRaster (raster_of ncols nrows cells)
+raster_whole ncols nrows cells whole = record {
+  some_cols = whole.some_cols;
+  some_rows = whole.some_rows;
+  small = whole.small;
+  height = length-rows_of ncols nrows cells;
+  width = rows_wide ncols nrows cells whole.whole;
+}

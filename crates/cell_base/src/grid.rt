@@ -1,6 +1,6 @@
 // A grid of values in one flat vector.
 ghost use Rattle.std.specs.Prelude.{◌≡◌, ◌*◌, ◌<◌, ◌≤◌, Some, replicate, IfOk, length, slice_get};
-ghost use Rattle.cell_base.specs.Raster.{SetsPlace, most_cells, raster_of, value_at};
+ghost use Rattle.cell_base.specs.Raster.{IsRaster, SetsPlace, most_cells, raster_of, value_at};
 
 use std::alloc::{AllocError, Global};
 use std::marker::Model;
@@ -63,7 +63,8 @@ impl<T: Copy> Grid<T> {
 
     /// The number of columns.
     pub fn ncols(&self) -> u32
-        ensures { result ≡ self.now.ncols }
+        ensures value { result ≡ self.now.ncols }
+        ensures whole { IsRaster self.now }
     {
         self.ncols
     }

@@ -1,6 +1,6 @@
 // A mask: a truth value for each cell of a grid.
-ghost use Rattle.std.specs.Prelude.{◌≡◌, ◌*◌, ◌<◌, ◌≤◌, ◌↔◌, Some, replicate, IfOk};
-ghost use Rattle.cell_base.specs.Raster.{Place, SetsPlace, most_cells, raster_of, value_at};
+ghost use Rattle.std.specs.Prelude.{◌≡◌, ◌≢◌, ◌*◌, ◌<◌, ◌≤◌, ◌↔◌, Some, replicate, IfOk, IsTrue};
+ghost use Rattle.cell_base.specs.Raster.{IsRaster, Place, SetsPlace, most_cells, raster_of, value_at};
 ghost use Rattle.cell_base.specs.Valid.{IsMarked, IsValid};
 
 use crate::cell::Cell;
@@ -37,7 +37,8 @@ impl Mask {
 
     /// The number of columns.
     pub fn ncols(&self) -> u32
-        ensures { result ≡ self.now.ncols }
+        ensures value { result ≡ self.now.ncols }
+        ensures whole { IsRaster self.now }
     {
         self.cells.ncols()
     }
@@ -81,19 +82,22 @@ impl Mask {
         ensures rows { IfOk result (λ mask. mask.nrows ≡ cells.now.nrows) }
         ensures valid { IfOk result (λ mask. (p : Place) → IsMarked mask p ↔ IsValid cells.now nodata p) }
     {
-        let ncols = cells.ncols();
-        let nrows = cells.nrows();
-        let mut mask = Mask::make(alloc, ncols, nrows, true)?;
-        let Some(nodata) = nodata else {
-            return Ok(mask);
-        };
-        for row in 0..nrows {
-            for col in 0..ncols {
-                if cells.get(row, col).units() == nodata.units() {
-                    mask.set(row, col, false);
-                }
+        let mut mask = Mask::make(alloc, cells.ncols(), cells.nrows(), false)?;
+        'rows: for row in 0..cells.nrows() {
+            'cols: for col in 0..cells.ncols() {
+                mask.set(row, col, differs(nodata, cells.get(row, col)));
             }
         }
         Ok(mask)
+    }
+}
+
+/// Whether a value isn't the nodata value.
+fn differs<T: Cell>(nodata: Option<T>, value: T) -> bool
+    ensures { IsTrue result ↔ (nodata ≢ Some value) }
+{
+    match nodata {
+        None => true,
+        Some(nodata) => nodata.units() != value.units(),
     }
 }

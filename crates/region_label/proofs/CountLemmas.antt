@@ -8,10 +8,11 @@ use Rattle.std.proofs.lemmas.Option.{slice_get_within, get_or_from_slice_get, ge
 use Rattle.std.proofs.lemmas.Grind.{common_steps}
 use Rattle.cell_base.specs.Raster.{Place, Raster, IsInside, IsRaster, value_at}
 use Rattle.cell_base.proofs.PlaceLemmas.{inside_from_value}
-use Rattle.region_label.specs.Order.{IsBefore, IsListOf, HasCount}
+use Rattle.cell_base.specs.Order.{IsBefore}
+use Rattle.region_label.specs.Count.{IsListOf, HasCount}
 use Rattle.region_label.specs.Fill.{Numbers}
 use Rattle.region_label.specs.Sizes.{IsCounted, AreCounted}
-use Rattle.region_label.proofs.ListLemmas.{before_next, before_more, before_not_itself, at_row_end, in_next_row}
+use Rattle.cell_base.proofs.OrderLemmas.{none_before, before_next, before_more, before_not_itself, at_row_end, in_next_row}
 
 -- sets with the same members have the same count
 pub count_same : {A : Type 0} (P Q : A → Type 0) (n : ℕ) → ((x : A) → P x ↔ Q x) → HasCount P n → HasCount Q n
@@ -41,10 +42,6 @@ count_more P Q n y count new is old only = (count.0 ++ y ∷ [], record {
   once = all_pairs_push (λ x z. x ≢ z) count.0 y count.1.once (λ k d within same.
     new (subst P same ((count.1.all (get_or count.0 k d)).0 (k, within, get_or_any count.0 k d within))));
 }, omega (arith, length-append count.0 (y ∷ []), count.2))
-
-none_before : (p : Place) → IsBefore p (0, 0) → ⊥
-none_before p (inl above) = omega arith
-none_before p (inr same) = omega (arith, same.1)
 
 zero_at : (n k m : ℕ) → slice_get (replicate n 0) k ≡ Some m → m ≡ 0
 zero_at n k m at =

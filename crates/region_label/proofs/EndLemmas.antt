@@ -4,14 +4,16 @@ use Rattle.std.proofs.lemmas.Bool.{cases_lt, cases_eq}
 use Rattle.std.proofs.lemmas.Option.{slice_get_within}
 use Rattle.cell_base.specs.Raster.{Place, Raster, IsInside, value_at}
 use Rattle.cell_base.specs.Valid.{IsMarked}
-use Rattle.region_label.specs.Order.{IsBefore, IsListOf, HasCount}
+use Rattle.cell_base.specs.Order.{IsBefore}
+use Rattle.region_label.specs.Count.{IsListOf, HasCount}
 use Rattle.region_label.specs.Component.{InComponent, IsFirst, HasNumber}
 use Rattle.region_label.specs.Labelling.{RegionTable, IsLabelling}
 use Rattle.region_label.specs.Fill.{Numbers, AreAligned, IsScanned}
 use Rattle.region_label.specs.Sizes.{IsCounted, AreCounted}
 use Rattle.region_label.proofs.ComponentLemmas.{component_end}
 use Rattle.region_label.proofs.CountLemmas.{count_same}
-use Rattle.region_label.proofs.ListLemmas.{at_from_contains, contains_from_at, at_within, slice_get-take, before_not_itself, before_trans}
+use Rattle.region_label.proofs.ListLemmas.{at_from_contains, contains_from_at, at_within, slice_get-take}
+use Rattle.cell_base.proofs.OrderLemmas.{before_not_itself, before_trans}
 use Rattle.region_label.proofs.ScanLemmas.{marked_inside}
 
 same_at : {A : Type 0} (xs : List A) (i j : ℕ) (x y : A) → i ≡ j → slice_get xs i ≡ Some x → slice_get xs j ≡ Some y → x ≡ y

@@ -6,7 +6,8 @@ use Rattle.cell_base.specs.Steps.{IsStep}
 use Rattle.cell_base.specs.Walk.{IsWalk, StepsInto, IsJoined}
 use Rattle.cell_base.proofs.WalkLemmas.{joined_itself, joined_more}
 use Rattle.region_label.specs.Fill.{Numbers, IsNumbered, Spreads, IsFilled, free_count}
-use Rattle.region_label.proofs.FreeLemmas.{same_or_other, count_set}
+use Rattle.cell_base.proofs.OrderLemmas.{same_or_other}
+use Rattle.region_label.proofs.FreeLemmas.{count_set}
 
 -- nothing was done
 pub spreads_none : (may : Place → Type 0) (k : ℕ) (numbers : Numbers) (stack : List Place) → Spreads may k numbers numbers stack stack

@@ -1,6 +1,7 @@
 use Rattle.std.proofs.Common.{◌≡◌, ◌≢◌, ℕ, zero, suc, ◌+◌, ◌*◌, ◌<◌, ◌≤◌, ◌⊎◌, inl, inr, Bool, true, false, cond, Some, None, refl, ap, sym, ◌∙◌, arith}
 use Rattle.std.proofs.lemmas.Bool.{cases_eq, false≢true}
 use Rattle.cell_base.specs.Raster.{Place, Raster, IsInside, SetsPlace, value_at}
+use Rattle.cell_base.proofs.OrderLemmas.{same_or_other}
 use Rattle.region_label.specs.Fill.{Numbers, is_free_value, free_in_row, free_in_rows, free_count}
 
 -- whatever has no number now had none before
@@ -70,14 +71,6 @@ rows_most numbers (suc n) = omega (arith, row_most numbers n numbers.ncols, rows
 pub count_most : (numbers : Numbers) → free_count numbers ≤ numbers.ncols * numbers.nrows
 unfolding free_count
 count_most numbers = rows_most numbers numbers.nrows
-
--- two places are the same or not
-pub same_or_other : (p q : Place) → (p ≡ q) ⊎ (p ≢ q)
-same_or_other p q = elim (cases_eq p.0 q.0) [
-    inl row ↦ elim (cases_eq p.1 q.1) [
-        inl col ↦ inl (let both : (p.0, p.1) ≡ (q.0, q.1) = cc in both)
-      | inr other ↦ inr (λ same. other (ap (λ (r : Place). r.1) same)) ]
-  | inr other ↦ inr (λ same. other (ap (λ (r : Place). r.0) same)) ]
 
 pub frees_none : (old new : Numbers) (p : Place) (k : ℕ) → SetsPlace old new p (Some k) → FreesNone old new
 frees_none old new p k sets q free = elim (same_or_other q p) [

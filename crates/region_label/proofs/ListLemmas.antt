@@ -4,7 +4,8 @@ use Rattle.std.proofs.lemmas.Option.{slice_get_within, slice_get-get_or, get_or_
 use Rattle.std.proofs.lemmas.Bool.{cases_lt}
 use Rattle.std.proofs.lemmas.Grind.{common_steps}
 use Rattle.cell_base.specs.Raster.{Place}
-use Rattle.region_label.specs.Order.{IsBefore, IsListOf, HasCount}
+use Rattle.cell_base.specs.Order.{IsBefore}
+use Rattle.region_label.specs.Count.{IsListOf, HasCount}
 
 -- a member stands somewhere
 pub at_from_contains : {A : Type 0} (xs : List A) (x : A) → Contains xs x → (k : ℕ) × (slice_get xs k ≡ Some x)
@@ -38,37 +39,3 @@ pub at_push_cases : {A : Type 0} (xs : List A) (x : A) (k : ℕ) (y : A) → sli
 at_push_cases xs x k y is =
     let within : k < length xs + 1 = omega (arith, length-append xs (x ∷ []), slice_get_within (xs ++ x ∷ []) k y is) in
     at_push_of xs x k y within is
-
-pub before_not_itself : (a : Place) → ¬ IsBefore a a
-before_not_itself a (inl row) = omega arith
-before_not_itself a (inr same) = omega arith
-
-pub before_trans : (a b c : Place) → IsBefore a b → IsBefore b c → IsBefore a c
-before_trans a b c (inl ab) (inl bc) = inl (omega arith)
-before_trans a b c (inl ab) (inr bc) = inl (omega arith)
-before_trans a b c (inr ab) (inl bc) = inl (omega arith)
-before_trans a b c (inr ab) (inr bc) = inr (omega arith, omega arith)
-
-next_cases : (m n : ℕ) → m < n + 1 → (m < n) ⊎ (m ≡ n)
-next_cases m n less = elim (cases_lt m n) [ inl below ↦ inl below | inr past ↦ inr (omega arith) ]
-
--- the next place in a row
-pub before_next : (a : Place) (row col : ℕ) → IsBefore a (row, col + 1) → IsBefore a (row, col) ⊎ (a ≡ (row, col))
-before_next a row col (inl above) = inl (inl above)
-before_next a row col (inr same) = elim (next_cases a.1 col same.1) [
-    inl less ↦ inl (inr (same.0, less))
-  | inr is ↦
-      let both : (a.0, a.1) ≡ (row, col) = let is_row = same.0 in cc in
-      inr both ]
-
-pub before_more : (a : Place) (row col : ℕ) → IsBefore a (row, col) → IsBefore a (row, col + 1)
-before_more a row col (inl above) = inl above
-before_more a row col (inr same) = inr (same.0, omega arith)
-
-pub at_row_end : (p : Place) (row ncols : ℕ) → p.1 < ncols → IsBefore p (row + 1, 0) → IsBefore p (row, ncols)
-at_row_end p row ncols in_col (inl above) = elim (next_cases p.0 row above) [ inl less ↦ inl less | inr same ↦ inr (same, in_col) ]
-at_row_end p row ncols in_col (inr same) = absurd (omega (arith, same.1))
-
-pub in_next_row : (p : Place) (row ncols : ℕ) → IsBefore p (row, ncols) → IsBefore p (row + 1, 0)
-in_next_row p row ncols (inl above) = inl (omega arith)
-in_next_row p row ncols (inr same) = inl (omega (arith, same.0))

@@ -4,12 +4,13 @@ use Rattle.std.proofs.lemmas.Option.{slice_get_within}
 use Rattle.cell_base.specs.Raster.{Place, Raster, IsInside, value_at}
 use Rattle.cell_base.specs.Valid.{IsMarked}
 use Rattle.cell_base.proofs.PlaceLemmas.{inside_from_value}
-use Rattle.region_label.specs.Order.{IsBefore}
+use Rattle.cell_base.specs.Order.{IsBefore}
 use Rattle.region_label.specs.Component.{InComponent, IsFirst, HasValue}
 use Rattle.region_label.specs.Fill.{Numbers, AreAligned, IsNumbered, IsFilled, IsScanned, free_count}
 use Rattle.region_label.proofs.FreeLemmas.{count_most}
 use Rattle.region_label.proofs.ComponentLemmas.{component_end, component_itself, component_sym, component_trans}
-use Rattle.region_label.proofs.ListLemmas.{at_push_cases, slice_get-push_old, slice_get-push_last, before_next, before_more, at_row_end, in_next_row}
+use Rattle.region_label.proofs.ListLemmas.{at_push_cases, slice_get-push_old, slice_get-push_last}
+use Rattle.cell_base.proofs.OrderLemmas.{none_before, before_next, before_more, at_row_end, in_next_row}
 
 -- the cell has no number
 abbrev pub HasNone : Numbers → Place → Type 0
@@ -133,10 +134,6 @@ scan_row eight cells valid numbers firsts row scan =
 
 none_at : (k : ℕ) (a : Place) → slice_get {X = Place} [] k ≡ Some a → ⊥
 none_at k a at = cc
-
-none_before : (p : Place) → IsBefore p (0, 0) → ⊥
-none_before p (inl above) = omega arith
-none_before p (inr same) = omega (arith, same.1)
 
 -- before the first cell
 pub scan_start : {T : Type 0} (eight : Bool) (cells : Raster T) (valid : Raster Bool) (numbers : Numbers) → AreAligned cells valid numbers → ((p : Place) → HasNone numbers p) → IsScanned eight cells valid numbers [] (0, 0)

@@ -3,7 +3,8 @@ use Rattle.std.specs.Prelude.{◌≡◌, ℕ, Bool, Option}
 use Rattle.cell_base.specs.Raster.{Place, Raster, value_at}
 use Rattle.cell_base.specs.Valid.{IsMarked}
 use Rattle.cell_base.specs.Walk.{IsJoined}
-use Rattle.region_label.specs.Order.{IsBefore, HasCount}
+use Rattle.cell_base.specs.Order.{IsBefore}
+use Rattle.region_label.specs.Count.{HasCount}
 
 -- the valid cells of one value
 abbrev pub HasValue : {T : Type 0} → Raster T → Raster Bool → Option T → Place → Type 0

@@ -2,7 +2,7 @@
 use Rattle.std.specs.Prelude.{◌≡◌, ℕ, zero, suc, ◌+◌, ◌*◌, ◌<◌, ◌≤◌, ◌⊎◌, Bool, true, false, List, Option, Some, None, Contains, length, slice_get, if◌then◌else◌}
 use Rattle.cell_base.specs.Raster.{Place, Raster, IsInside, IsRaster, value_at}
 use Rattle.cell_base.specs.Valid.{IsMarked}
-use Rattle.region_label.specs.Order.{IsBefore}
+use Rattle.cell_base.specs.Order.{IsBefore}
 use Rattle.region_label.specs.Component.{InComponent, IsFirst}
 
 abbrev pub Numbers : Type 0

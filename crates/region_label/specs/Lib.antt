@@ -1,4 +1,4 @@
-pub mod Order
+pub mod Count
 pub mod Component
 pub mod Labelling
 pub mod Fill

@@ -1,7 +1,8 @@
 -- How far the cells of each component have been counted.
 use Rattle.std.specs.Prelude.{◌≡◌, ℕ, ◌+◌, ◌*◌, ◌≤◌, List, Some, slice_get}
 use Rattle.cell_base.specs.Raster.{Place, value_at}
-use Rattle.region_label.specs.Order.{IsBefore, HasCount}
+use Rattle.cell_base.specs.Order.{IsBefore}
+use Rattle.region_label.specs.Count.{HasCount}
 use Rattle.region_label.specs.Fill.{Numbers}
 
 -- the cells of this number before a place

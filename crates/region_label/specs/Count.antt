@@ -1,10 +1,5 @@
--- The order of places, and how many have something.
-use Rattle.std.specs.Prelude.{◌≡◌, ◌≢◌, ℕ, ◌<◌, ◌⊎◌, ◌↔◌, List, length, AllPairs, Contains}
-use Rattle.cell_base.specs.Raster.{Place}
-
--- an earlier row, or the same row and an earlier column
-abbrev pub IsBefore : Place → Place → Type 0
-IsBefore a b = (a.0 < b.0) ⊎ ((a.0 ≡ b.0) × (a.1 < b.1))
+-- How many members a set has.
+use Rattle.std.specs.Prelude.{◌≡◌, ◌≢◌, ℕ, ◌↔◌, List, length, AllPairs, Contains}
 
 -- the list holds each member of the set once, and nothing else
 pub record IsListOf {A : Type 0} (set : A → Type 0) (members : List A) : Type 0 where
