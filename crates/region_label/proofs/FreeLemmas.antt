@@ -33,13 +33,14 @@ row_le old new row (suc n) none = omega (arith, bit_le _ _ (none (row, n)), row_
 row_less : (old new : Numbers) (row n col : ℕ) → FreesNone old new → col < n → is_free_value (value_at old (row, col)) ≡ true → is_free_value (value_at new (row, col)) ≡ false → free_in_row new row n + 1 ≤ free_in_row old row n
 row_less old new row zero col none within was now = absurd (omega arith)
 row_less old new row (suc n) col none within was now = elim (cases_eq col n) [
-    inl same ↦
+  | inl same ↦
       let bit_was : 1 ≤ cond (is_free_value (value_at old (row, n))) 1 0 = bit_one _ (rw same at was) in
       let bit_now : cond (is_free_value (value_at new (row, n))) 1 0 ≤ 0 = bit_none _ (rw same at now) in
       omega (arith, row_le old new row n none, bit_was, bit_now)
   | inr other ↦
       let below : col < n = omega arith in
-      omega (arith, bit_le _ _ (none (row, n)), row_less old new row n col none below was now) ]
+      omega (arith, bit_le _ _ (none (row, n)), row_less old new row n col none below was now)
+]
 
 row_most : (numbers : Numbers) (row n : ℕ) → free_in_row numbers row n ≤ n
 row_most numbers row zero = omega arith
@@ -54,7 +55,7 @@ rows_le old new (suc n) cols none =
 rows_less : (old new : Numbers) (n row col : ℕ) → new.ncols ≡ old.ncols → FreesNone old new → row < n → col < old.ncols → is_free_value (value_at old (row, col)) ≡ true → is_free_value (value_at new (row, col)) ≡ false → free_in_rows new n + 1 ≤ free_in_rows old n
 rows_less old new zero row col cols none in_row in_col was now = absurd (omega arith)
 rows_less old new (suc n) row col cols none in_row in_col was now = elim (cases_eq row n) [
-    inl same ↦
+  | inl same ↦
       let was_there : is_free_value (value_at old (n, col)) ≡ true = rw same at was in
       let now_there : is_free_value (value_at new (n, col)) ≡ false = rw same at now in
       let less : free_in_row new n new.ncols + 1 ≤ free_in_row old n old.ncols = rw cols (row_less old new n old.ncols col none in_col was_there now_there) in
@@ -62,7 +63,8 @@ rows_less old new (suc n) row col cols none in_row in_col was now = elim (cases_
   | inr other ↦
       let below : row < n = omega arith in
       let le : free_in_row new n new.ncols ≤ free_in_row old n old.ncols = rw cols (row_le old new n old.ncols none) in
-      omega (arith, le, rows_less old new n row col cols none below in_col was now) ]
+      omega (arith, le, rows_less old new n row col cols none below in_col was now)
+]
 
 rows_most : (numbers : Numbers) (n : ℕ) → free_in_rows numbers n ≤ numbers.ncols * n
 rows_most numbers zero = omega arith
@@ -74,8 +76,9 @@ count_most numbers = rows_most numbers numbers.nrows
 
 pub frees_none : (old new : Numbers) (p : Place) (k : ℕ) → SetsPlace old new p (Some k) → FreesNone old new
 frees_none old new p k sets q free = elim (same_or_other q p) [
-    inl same ↦ absurd (false≢true (sym (ap is_free_value (ap (value_at new) same ∙ sets.set)) ∙ free))
-  | inr other ↦ sym (ap is_free_value (sets.others q other)) ∙ free ]
+  | inl same ↦ absurd (false≢true (sym (ap is_free_value (ap (value_at new) same ∙ sets.set)) ∙ free))
+  | inr other ↦ sym (ap is_free_value (sets.others q other)) ∙ free
+]
 
 -- a number that is given leaves one cell fewer without
 pub count_set : (old new : Numbers) (p : Place) (k : ℕ) → SetsPlace old new p (Some k) → IsInside old p → value_at old p ≡ Some None → free_count new + 1 ≤ free_count old

@@ -31,8 +31,9 @@ at_push_of [] x zero y within is = inr (refl, (let same : y ≡ x = cc in same))
 at_push_of [] x (suc k) y within is = absurd (omega arith)
 at_push_of (z ∷ zs) x zero y within is = inl is
 at_push_of (z ∷ zs) x (suc k) y within is = elim (at_push_of zs x k y (omega arith) is) [
-    inl old ↦ inl old
-  | inr new ↦ inr (omega (arith, new.0), new.1) ]
+  | inl old ↦ inl old
+  | inr new ↦ inr (omega (arith, new.0), new.1)
+]
 
 -- what stands in a list with one more
 pub at_push_cases : {A : Type 0} (xs : List A) (x : A) (k : ℕ) (y : A) → slice_get (xs ++ x ∷ []) k ≡ Some y → (slice_get xs k ≡ Some y) ⊎ ((k ≡ length xs) × (y ≡ x))

@@ -1,9 +1,11 @@
-use Rattle.std.proofs.Common.{◌≡◌, ◌≢◌, ℕ, ◌+◌, ◌*◌, ◌<◌, ◌≤◌, ◌⊎◌, ◌↔◌, inl, inr, Bool, List, [], ◌∷◌, ◌++◌, Some, None, length, length-append, refl, ap, sym, ◌∙◌, subst, arith}
-use Rattle.std.specs.Prelude.{slice_get}
+use Rattle.std.proofs.Common.{◌≡◌, ◌≢◌, ℕ, ◌+◌, ◌*◌, ◌<◌, ◌≤◌, ◌⊎◌, ◌↔◌, inl, inr, Bool, true, false, List, [], ◌∷◌, ◌++◌, Option, Some, None, length, length-append, replicate, refl, ap, sym, ◌∙◌, subst, arith}
+use Rattle.std.specs.Prelude.{is_some, slice_get}
+use Rattle.std.proofs.lemmas.Bool.{false≢true}
 use Rattle.std.proofs.lemmas.Option.{slice_get_within}
-use Rattle.cell_base.specs.Raster.{Place, Raster, IsInside, value_at}
+use Rattle.cell_base.specs.Raster.{Place, Raster, IsInside, IsRaster, raster_of, value_at}
 use Rattle.cell_base.specs.Valid.{IsMarked}
-use Rattle.cell_base.proofs.PlaceLemmas.{inside_from_value}
+use Rattle.cell_base.proofs.PlaceLemmas.{inside_from_value, rows_hold}
+use Rattle.std.proofs.lemmas.List.Elements.{All-replicate}
 use Rattle.cell_base.specs.Order.{IsBefore}
 use Rattle.region_label.specs.Component.{InComponent, IsFirst, HasValue}
 use Rattle.region_label.specs.Fill.{Numbers, AreAligned, IsNumbered, IsFilled, IsScanned, free_count}
@@ -28,13 +30,15 @@ every_next {T} eight cells valid numbers firsts row col scan not_first numbered 
   order = scan.order;
   first = λ k a at. ((scan.first k a at).0, before_more a row col (scan.first k a at).1);
   every = λ a is before. elim (before_next a row col before) [
-      inl old ↦ scan.every a is old
-    | inr here ↦ absurd (not_first (subst (λ (p : Place). IsFirst eight cells valid p) here is)) ];
+    | inl old ↦ scan.every a is old
+    | inr here ↦ absurd (not_first (subst (λ (p : Place). IsFirst eight cells valid p) here is))
+  ];
   numbered = scan.numbered;
   joined = scan.joined;
   scanned = λ p before marked. elim (before_next p row col before) [
-      inl old ↦ scan.scanned p old marked
-    | inr here ↦ subst (λ (q : Place). IsNumbered numbers q) (sym here) (numbered (subst (λ (q : Place). IsMarked valid q) here marked)) ];
+    | inl old ↦ scan.scanned p old marked
+    | inr here ↦ subst (λ (q : Place). IsNumbered numbers q) (sym here) (numbered (subst (λ (q : Place). IsMarked valid q) here marked))
+  ];
   room = scan.room;
 }
 
@@ -67,8 +71,8 @@ first_here : {T : Type 0} (eight : Bool) (cells : Raster T) (valid : Raster Bool
 first_here eight cells valid numbers firsts place scan marked none = record {
   marked = marked;
   least = λ b joined before.
-    let has = scan.scanned b before (component_end eight cells valid place b joined).0 in
-    free_component eight cells valid numbers firsts place place scan none b joined has.0 has.1;
+      let has = scan.scanned b before (component_end eight cells valid place b joined).0 in
+      free_component eight cells valid numbers firsts place place scan none b joined has.0 has.1;
 }
 
 -- the first cell of a component, whose cells have got the next number
@@ -87,33 +91,41 @@ scan_filled {T} eight cells valid numbers after firsts row col scan marked none 
         rows = fill.rows ∙ scan.aligned.rows;
       };
       order = λ i j a b less at_a at_b. elim (at_push_cases firsts place j b at_b) [
-          inl old_b ↦ elim (at_push_cases firsts place i a at_a) [
-              inl old_a ↦ scan.order i j a b less old_a old_b
-            | inr new_a ↦ absurd (omega (arith, new_a.0, slice_get_within firsts j b old_b)) ]
+        | inl old_b ↦ elim (at_push_cases firsts place i a at_a) [
+          | inl old_a ↦ scan.order i j a b less old_a old_b
+          | inr new_a ↦ absurd (omega (arith, new_a.0, slice_get_within firsts j b old_b))
+        ]
         | inr new_b ↦ elim (at_push_cases firsts place i a at_a) [
-              inl old_a ↦ subst (λ (p : Place). IsBefore a p) (sym new_b.1) (scan.first i a old_a).1
-            | inr new_a ↦ absurd (omega (arith, new_a.0, new_b.0)) ] ];
+          | inl old_a ↦ subst (λ (p : Place). IsBefore a p) (sym new_b.1) (scan.first i a old_a).1
+          | inr new_a ↦ absurd (omega (arith, new_a.0, new_b.0))
+        ]
+      ];
       first = λ k a at. elim (at_push_cases firsts place k a at) [
-          inl old ↦ ((scan.first k a old).0, before_more a row col (scan.first k a old).1)
-        | inr new ↦ (subst (λ (p : Place). IsFirst eight cells valid p) (sym new.1) is_first, subst (λ (p : Place). IsBefore p (row, col + 1)) (sym new.1) (inr (refl, omega arith))) ];
+        | inl old ↦ ((scan.first k a old).0, before_more a row col (scan.first k a old).1)
+        | inr new ↦ (subst (λ (p : Place). IsFirst eight cells valid p) (sym new.1) is_first, subst (λ (p : Place). IsBefore p (row, col + 1)) (sym new.1) (inr (refl, omega arith)))
+      ];
       every = λ a is before. elim (before_next a row col before) [
-          inl old ↦
+        | inl old ↦
             let found = scan.every a is old in
             (found.0, old_at found.0 a found.1)
-        | inr here ↦ (length firsts, slice_get-push_last firsts place ∙ ap (λ (p : Place). Some p) (sym here)) ];
+        | inr here ↦ (length firsts, slice_get-push_last firsts place ∙ ap (λ (p : Place). Some p) (sym here))
+      ];
       numbered = λ p k is. elim (fill.fresh p k is) [
-          inl old ↦
+        | inl old ↦
             let found = scan.numbered p k old in
             (found.0, old_at k found.0 found.1, found.2)
-        | inr new ↦ (place, rw new.0 (slice_get-push_last firsts place), new.1) ];
+        | inr new ↦ (place, rw new.0 (slice_get-push_last firsts place), new.1)
+      ];
       joined = λ k a p at joined. elim (at_push_cases firsts place k a at) [
-          inl old ↦ fill.kept p k (scan.joined k a p old joined)
-        | inr new ↦ rw new.0 (fill.all p (subst (λ (q : Place). InComponent eight cells valid q p) new.1 joined)) ];
+        | inl old ↦ fill.kept p k (scan.joined k a p old joined)
+        | inr new ↦ rw new.0 (fill.all p (subst (λ (q : Place). InComponent eight cells valid q p) new.1 joined))
+      ];
       scanned = λ p before is. elim (before_next p row col before) [
-          inl old ↦
+        | inl old ↦
             let had = scan.scanned p old is in
             (had.0, fill.kept p had.0 had.1)
-        | inr here ↦ (length firsts, fill.all p (subst (λ (q : Place). InComponent eight cells valid place q) (sym here) (component_itself eight cells valid place marked))) ];
+        | inr here ↦ (length firsts, fill.all p (subst (λ (q : Place). InComponent eight cells valid place q) (sym here) (component_itself eight cells valid place marked)))
+      ];
       room = omega (arith, length-append firsts (place ∷ []), scan.room, fill.less);
     }
 
@@ -147,3 +159,29 @@ scan_start eight cells valid numbers aligned none = record {
   scanned = λ p before marked. absurd (none_before p before);
   room = rw (← aligned.cols, ← aligned.rows) (omega (arith, count_most numbers));
 }
+
+-- what a look at a cell tells
+pub has_number : (numbers : Numbers) (p : Place) (o : Option ℕ) → value_at numbers p ≡ Some o → is_some o ≡ true → IsNumbered numbers p
+has_number numbers p None at is = absurd (false≢true is)
+has_number numbers p (Some k) at is = (k, at)
+
+pub has_none : (numbers : Numbers) (p : Place) (o : Option ℕ) → value_at numbers p ≡ Some o → is_some o ≡ false → HasNone numbers p
+has_none numbers p None at is k has =
+    let both : Some (Some k) ≡ Some None = sym has ∙ at in
+    cc
+has_none numbers p (Some j) at is k has = false≢true (sym is)
+
+-- a new grid of numbers has none
+pub scan_first : {T : Type 0} (eight : Bool) (cells : Raster T) (valid : Raster Bool) → IsRaster cells → IsRaster valid → valid.ncols ≡ cells.ncols → valid.nrows ≡ cells.nrows → IsScanned eight cells valid (raster_of cells.ncols cells.nrows (replicate (cells.ncols * cells.nrows) None)) [] (0, 0)
+scan_first eight cells valid cells_whole valid_whole cols rows =
+    let aligned : AreAligned cells valid (raster_of cells.ncols cells.nrows (replicate (cells.ncols * cells.nrows) None)) = record {
+      cells_whole = cells_whole;
+      valid_whole = valid_whole;
+      valid_cols = cols;
+      valid_rows = rows;
+      cols = refl;
+      rows = refl;
+    } in
+    scan_start eight cells valid (raster_of cells.ncols cells.nrows (replicate (cells.ncols * cells.nrows) None)) aligned (λ p k is.
+      let none : Some k ≡ None = rows_hold (λ (o : Option ℕ). o ≡ None) cells.ncols cells.nrows (replicate (cells.ncols * cells.nrows) None) p.0 p.1 (Some k) (All-replicate (λ (o : Option ℕ). o ≡ None) (cells.ncols * cells.nrows) None refl) is in
+      cc)

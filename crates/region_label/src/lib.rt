@@ -3,5 +3,8 @@
 
 mod fill;
 mod regions;
+mod scan;
+mod sizes;
 
 pub use regions::Regions;
+pub use scan::label;

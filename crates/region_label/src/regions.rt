@@ -1,6 +1,6 @@
 // The components of a grid.
-ghost use Rattle.std.specs.Prelude.{◌≡◌, ◌<◌, Some, length, slice_get};
-ghost use Rattle.cell_base.specs.Raster.{value_at};
+ghost use Rattle.std.specs.Prelude.{◌≡◌, ◌<◌, ◌≤◌, Some, length, slice_get};
+ghost use Rattle.cell_base.specs.Raster.{most_cells, value_at};
 
 use cell_base::Grid;
 use std::marker::Model;
@@ -26,6 +26,23 @@ impl Model for Regions {
 }
 
 impl Regions {
+    /// The components with these numbers, first cells and sizes.
+    pub(crate) fn of(
+        numbers: Grid<Option<u32>>,
+        firsts: Vec<(u32, u32)>,
+        sizes: Vec<u32>,
+    ) -> Regions
+        requires few { length firsts.items ≤ most_cells }
+        requires sized { length sizes.items ≡ length firsts.items }
+        ensures { result ≡ record { numbers = numbers; firsts = firsts.items; sizes = sizes.items } }
+    {
+        Regions {
+            numbers,
+            firsts,
+            sizes,
+        }
+    }
+
     /// The number of columns of the grid.
     pub fn ncols(&self) -> u32
         ensures { result ≡ self.now.numbers.ncols }
