@@ -4,4 +4,7 @@ pub mod BoxLemmas
 pub mod PolygonTests
 pub mod ValidTests
 pub mod CanonicalTests
+pub mod EdgeTests
 pub mod PolygonRows
+pub mod WrongRows
+pub mod EdgeRows

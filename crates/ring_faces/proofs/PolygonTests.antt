@@ -21,7 +21,7 @@ use Rattle.ring_faces.proofs.BoxLemmas.{enclosed_within, is_boxed, is_within}
 abbrev pub is_simple : Ring → Bool
 is_simple ring = (list_all is_unit (edges_of ring) && nat_le 4 (length (edges_of ring))) && all_pairs (λ a b. not (same_place a b)) (corners_of ring)
 
-le_tells : (m n : ℕ) → nat_le m n ≡ true → m ≤ n
+pub le_tells : (m n : ℕ) → nat_le m n ≡ true → m ≤ n
 le_tells m n is = grind (arith, nat_tests)
 
 pub is_simple_tells : (ring : Ring) → is_simple ring ≡ true → IsSimpleRing ring

@@ -94,6 +94,12 @@ any_by test (y ∷ ys) is = elim (either (test y) (list_any test ys) is) [
       let found = any_by test ys there in
       (found.0, contains_there y ys found.0 found.1, found.2) ]
 
+pub any_told : {A : Type 0} (test : A → Bool) (xs : List A) (x : A) → Contains xs x → test x ≡ true → list_any test xs ≡ true
+any_told test [] x member holds = absurd (omega (arith, member.1))
+any_told test (y ∷ ys) x member holds = elim (contains_cases y ys x member) [
+    inl here ↦ either_left (test y) (list_any test ys) (ap test here ∙ holds)
+  | inr there ↦ either_right (test y) (list_any test ys) (any_told test ys x there holds) ]
+
 pub has_tells : {A : Type 0} (same : A → A → Bool) → ((a b : A) → same a b ≡ true → a ≡ b) → (xs : List A) (x : A) → has same xs x ≡ true → Contains xs x
 has_tells same tells [] x is = absurd (false≢true is)
 has_tells same tells (y ∷ ys) x is = elim (either (same y x) (has same ys x) is) [
