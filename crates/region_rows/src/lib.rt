@@ -1,0 +1,5 @@
+//! Worked grids, labelled: the components that a reader finds by eye.
+#![tactic(auto)]
+
+#[cfg(test)]
+mod tests;
