@@ -5,3 +5,4 @@ pub mod ComponentLemmas
 pub mod ScanLemmas
 pub mod CountLemmas
 pub mod EndLemmas
+pub mod ComponentRows
