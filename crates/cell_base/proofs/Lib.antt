@@ -4,3 +4,4 @@ pub mod WalkLemmas
 pub mod PlaceLemmas
 pub mod OrderLemmas
 pub mod MaskLemmas
+pub mod TestLemmas

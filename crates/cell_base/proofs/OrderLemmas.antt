@@ -20,10 +20,11 @@ next_cases m n less = elim (cases_lt m n) [ inl below ↦ inl below | inr past �
 pub before_next : (a : Place) (row col : ℕ) → IsBefore a (row, col + 1) → IsBefore a (row, col) ⊎ (a ≡ (row, col))
 before_next a row col (inl above) = inl (inl above)
 before_next a row col (inr same) = elim (next_cases a.1 col same.1) [
-    inl less ↦ inl (inr (same.0, less))
+  | inl less ↦ inl (inr (same.0, less))
   | inr is ↦
       let both : (a.0, a.1) ≡ (row, col) = let is_row = same.0 in cc in
-      inr both ]
+      inr both
+]
 
 pub before_more : (a : Place) (row col : ℕ) → IsBefore a (row, col) → IsBefore a (row, col + 1)
 before_more a row col (inl above) = inl above
@@ -44,7 +45,9 @@ none_before p (inr same) = omega (arith, same.1)
 -- two places are the same or not
 pub same_or_other : (p q : Place) → (p ≡ q) ⊎ (p ≢ q)
 same_or_other p q = elim (cases_eq p.0 q.0) [
-    inl row ↦ elim (cases_eq p.1 q.1) [
-        inl col ↦ inl (let both : (p.0, p.1) ≡ (q.0, q.1) = cc in both)
-      | inr other ↦ inr (λ same. other (ap (λ (r : Place). r.1) same)) ]
-  | inr other ↦ inr (λ same. other (ap (λ (r : Place). r.0) same)) ]
+  | inl row ↦ elim (cases_eq p.1 q.1) [
+    | inl col ↦ inl (let both : (p.0, p.1) ≡ (q.0, q.1) = cc in both)
+    | inr other ↦ inr (λ same. other (ap (λ (r : Place). r.1) same))
+  ]
+  | inr other ↦ inr (λ same. other (ap (λ (r : Place). r.0) same))
+]

@@ -1,4 +1,4 @@
-use Rattle.std.proofs.Common.{◌≡◌, ℕ, zero, suc, ◌+◌, ◌<◌, ◌⊎◌, inl, inr, Bool, true, false, List, [], ◌∷◌, Option, Some, None, refl, sym, arith, lit<}
+use Rattle.std.proofs.Common.{◌≡◌, ℕ, zero, suc, ◌+◌, ◌<◌, inl, inr, Bool, true, false, Option, Some, None, sym, arith, lit<}
 use Rattle.std.specs.Prelude.{IsSomeAnd, slice_get}
 use Rattle.cell_base.specs.Raster.{Place}
 use Rattle.cell_base.specs.Steps.{AreNext, SharesSide, SharesCorner, IsStep, step_count, Change, less, same, more, Changes, ways, IsNeighbour}

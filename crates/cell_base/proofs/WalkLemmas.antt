@@ -1,4 +1,4 @@
-use Rattle.std.proofs.Common.{◌≡◌, Bool, List, [], ◌∷◌, ◌++◌, refl, sym}
+use Rattle.std.proofs.Common.{Bool, List, [], ◌∷◌, ◌++◌, refl, sym}
 use Rattle.cell_base.specs.Raster.{Place}
 use Rattle.cell_base.specs.Steps.{IsStep}
 use Rattle.cell_base.specs.Walk.{IsWalk, StepsInto, IsJoined}

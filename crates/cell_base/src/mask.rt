@@ -77,7 +77,11 @@ impl Mask {
 
     /// The valid cells: true exactly where a cell isn't the nodata value. The only error is
     /// want of memory.
-    pub fn valid_of<T: Cell>(alloc: Global, cells: &Grid<T>, nodata: Option<T>) -> Result<Mask, AllocError>
+    pub fn valid_of<T: Cell>(
+        alloc: Global,
+        cells: &Grid<T>,
+        nodata: Option<T>,
+    ) -> Result<Mask, AllocError>
         ensures cols { IfOk result (λ mask. mask.ncols ≡ cells.now.ncols) }
         ensures rows { IfOk result (λ mask. mask.nrows ≡ cells.now.nrows) }
         ensures valid { IfOk result (λ mask. (p : Place) → IsMarked mask p ↔ IsValid cells.now nodata p) }

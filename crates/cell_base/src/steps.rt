@@ -36,10 +36,26 @@ impl<const EIGHT: bool> Steps<EIGHT> {
             1 => if left { Some((row, col - 1)) } else { None },
             2 => if right { Some((row, col + 1)) } else { None },
             3 => if down { Some((row + 1, col)) } else { None },
-            4 => if up && left { Some((row - 1, col - 1)) } else { None },
-            5 => if up && right { Some((row - 1, col + 1)) } else { None },
-            6 => if down && left { Some((row + 1, col - 1)) } else { None },
-            _ => if down && right { Some((row + 1, col + 1)) } else { None },
+            4 => if up && left {
+                Some((row - 1, col - 1))
+            } else {
+                None
+            },
+            5 => if up && right {
+                Some((row - 1, col + 1))
+            } else {
+                None
+            },
+            6 => if down && left {
+                Some((row + 1, col - 1))
+            } else {
+                None
+            },
+            _ => if down && right {
+                Some((row + 1, col + 1))
+            } else {
+                None
+            },
         }
     }
 }

@@ -1,4 +1,4 @@
-use Rattle.std.proofs.Common.{◌≡◌, Bool, Option, sym, ◌∙◌, subst}
+use Rattle.std.proofs.Common.{◌≡◌, Bool, Option, sym, subst}
 use Rattle.cell_base.specs.Raster.{Place, Raster, value_at}
 use Rattle.cell_base.specs.Walk.{IsJoined}
 use Rattle.cell_base.specs.Valid.{IsMarked}

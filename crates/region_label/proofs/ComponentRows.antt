@@ -1,5 +1,5 @@
 -- Worked grids: which cells are joined under four and under eight.
-use Rattle.std.proofs.Common.{◌≡◌, ℕ, ◌+◌, ◌⊎◌, inl, inr, Bool, true, false, List, [], ◌∷◌, Option, Some, refl, sym, ap, ◌∙◌, subst, arith}
+use Rattle.std.proofs.Common.{◌≡◌, ℕ, inl, inr, Bool, true, false, List, [], ◌∷◌, Some, refl, ap, subst, arith}
 use Rattle.cell_base.specs.Raster.{Place, Raster, value_at}
 use Rattle.cell_base.specs.Steps.{SharesSide}
 use Rattle.cell_base.specs.Walk.{IsWalk, StepsInto}

@@ -1,5 +1,5 @@
-use Rattle.std.proofs.Common.{◌≡◌, ◌≢◌, ℕ, zero, suc, ◌+◌, ◌*◌, ◌<◌, ◌≤◌, ◌⊎◌, ◌↔◌, inl, inr, List, [], ◌∷◌, ◌++◌, Option, Some, None, length, length-append, get_or, set, replicate, refl, ap, sym, ◌∙◌, subst, arith}
-use Rattle.std.specs.Prelude.{Contains, AllPairs, slice_get}
+use Rattle.std.proofs.Common.{◌≡◌, ◌≢◌, ℕ, ◌+◌, ◌*◌, ◌<◌, ◌⊎◌, ◌↔◌, inl, inr, List, [], ◌∷◌, ◌++◌, Some, None, length, length-append, get_or, set, replicate, refl, ap, sym, ◌∙◌, subst, arith}
+use Rattle.std.specs.Prelude.{slice_get}
 use Rattle.std.proofs.lemmas.Bool.{cases_eq}
 use Rattle.std.proofs.lemmas.List.{length-replicate, get_or-replicate}
 use Rattle.std.proofs.lemmas.List.Elements.{Contains-append_left, Contains-push, Contains-push_cases}
@@ -7,10 +7,9 @@ use Rattle.std.proofs.lemmas.List.Quantifiers.{all_pairs_push}
 use Rattle.std.proofs.lemmas.Option.{slice_get_within, get_or_from_slice_get, gets}
 use Rattle.std.proofs.lemmas.Nat.{rows}
 use Rattle.std.proofs.lemmas.Grind.{common_steps}
-use Rattle.cell_base.specs.Raster.{Place, Raster, IsInside, IsRaster, value_at}
+use Rattle.cell_base.specs.Raster.{Place, IsRaster, value_at}
 use Rattle.cell_base.proofs.PlaceLemmas.{inside_from_value}
-use Rattle.cell_base.specs.Order.{IsBefore}
-use Rattle.region_label.specs.Count.{IsListOf, HasCount}
+use Rattle.region_label.specs.Count.{HasCount}
 use Rattle.region_label.specs.Fill.{Numbers}
 use Rattle.region_label.specs.Sizes.{IsCounted, AreCounted}
 use Rattle.cell_base.proofs.OrderLemmas.{none_before, before_next, before_more, before_not_itself, at_row_end, in_next_row}

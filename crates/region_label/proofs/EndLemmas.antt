@@ -1,15 +1,14 @@
-use Rattle.std.proofs.Common.{◌≡◌, ◌≢◌, ℕ, ◌+◌, ◌<◌, ◌≤◌, ◌⊎◌, ◌↔◌, inl, inr, Bool, List, [], ◌∷◌, Option, Some, None, length, length-take, take, get_or, refl, ap, sym, ◌∙◌, subst, arith}
-use Rattle.std.specs.Prelude.{Contains, AllPairs, slice_get}
+use Rattle.std.proofs.Common.{◌≡◌, ℕ, ◌<◌, ◌↔◌, inl, inr, Bool, List, Some, length, length-take, take, get_or, refl, ap, sym, ◌∙◌, subst, arith}
+use Rattle.std.specs.Prelude.{slice_get}
 use Rattle.std.proofs.lemmas.Bool.{cases_lt, cases_eq}
 use Rattle.std.proofs.lemmas.Option.{slice_get_within}
-use Rattle.cell_base.specs.Raster.{Place, Raster, IsInside, value_at}
+use Rattle.cell_base.specs.Raster.{Place, Raster, value_at}
 use Rattle.cell_base.specs.Valid.{IsMarked}
 use Rattle.cell_base.specs.Order.{IsBefore}
-use Rattle.region_label.specs.Count.{IsListOf, HasCount}
-use Rattle.region_label.specs.Component.{InComponent, IsFirst, HasNumber}
-use Rattle.region_label.specs.Labelling.{RegionTable, IsLabelling}
+use Rattle.region_label.specs.Component.{InComponent, HasNumber}
+use Rattle.region_label.specs.Labelling.{IsLabelling}
 use Rattle.region_label.specs.Fill.{Numbers, AreAligned, IsScanned}
-use Rattle.region_label.specs.Sizes.{IsCounted, AreCounted}
+use Rattle.region_label.specs.Sizes.{AreCounted}
 use Rattle.region_label.proofs.ComponentLemmas.{component_end}
 use Rattle.region_label.proofs.CountLemmas.{count_same}
 use Rattle.region_label.proofs.ListLemmas.{at_from_contains, contains_from_at, at_within, slice_get-take}

@@ -1,6 +1,6 @@
-use Rattle.std.proofs.Common.{◌≡◌, ◌≢◌, ℕ, zero, suc, ◌+◌, ◌*◌, ◌<◌, ◌≤◌, ◌⊎◌, inl, inr, Bool, true, false, cond, Some, None, refl, ap, sym, ◌∙◌, arith}
+use Rattle.std.proofs.Common.{◌≡◌, ℕ, zero, suc, ◌+◌, ◌*◌, ◌<◌, ◌≤◌, inl, inr, Bool, true, false, cond, Some, None, refl, ap, sym, ◌∙◌, arith}
 use Rattle.std.proofs.lemmas.Bool.{cases_eq, false≢true}
-use Rattle.cell_base.specs.Raster.{Place, Raster, IsInside, SetsPlace, value_at}
+use Rattle.cell_base.specs.Raster.{Place, IsInside, SetsPlace, value_at}
 use Rattle.cell_base.proofs.OrderLemmas.{same_or_other}
 use Rattle.region_label.specs.Fill.{Numbers, is_free_value, free_in_row, free_in_rows, free_count}
 

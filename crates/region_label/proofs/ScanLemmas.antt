@@ -1,4 +1,4 @@
-use Rattle.std.proofs.Common.{◌≡◌, ◌≢◌, ℕ, ◌+◌, ◌*◌, ◌<◌, ◌≤◌, ◌⊎◌, ◌↔◌, inl, inr, Bool, true, false, List, [], ◌∷◌, ◌++◌, Option, Some, None, length, length-append, replicate, refl, ap, sym, ◌∙◌, subst, arith}
+use Rattle.std.proofs.Common.{◌≡◌, ◌≢◌, ℕ, ◌+◌, ◌*◌, inl, inr, Bool, true, false, List, [], ◌∷◌, ◌++◌, Option, Some, None, length, length-append, replicate, refl, ap, sym, ◌∙◌, subst, arith}
 use Rattle.std.specs.Prelude.{is_some, slice_get}
 use Rattle.std.proofs.lemmas.Bool.{false≢true}
 use Rattle.std.proofs.lemmas.Option.{slice_get_within}
@@ -7,8 +7,8 @@ use Rattle.cell_base.specs.Valid.{IsMarked}
 use Rattle.cell_base.proofs.PlaceLemmas.{inside_from_value, rows_hold}
 use Rattle.std.proofs.lemmas.List.Elements.{All-replicate}
 use Rattle.cell_base.specs.Order.{IsBefore}
-use Rattle.region_label.specs.Component.{InComponent, IsFirst, HasValue}
-use Rattle.region_label.specs.Fill.{Numbers, AreAligned, IsNumbered, IsFilled, IsScanned, free_count}
+use Rattle.region_label.specs.Component.{InComponent, IsFirst}
+use Rattle.region_label.specs.Fill.{Numbers, AreAligned, IsNumbered, IsFilled, IsScanned}
 use Rattle.region_label.proofs.FreeLemmas.{count_most}
 use Rattle.region_label.proofs.ComponentLemmas.{component_end, component_itself, component_sym, component_trans}
 use Rattle.region_label.proofs.ListLemmas.{at_push_cases, slice_get-push_old, slice_get-push_last}
@@ -183,5 +183,5 @@ scan_first eight cells valid cells_whole valid_whole cols rows =
       rows = refl;
     } in
     scan_start eight cells valid (raster_of cells.ncols cells.nrows (replicate (cells.ncols * cells.nrows) None)) aligned (λ p k is.
-      let none : Some k ≡ None = rows_hold (λ (o : Option ℕ). o ≡ None) cells.ncols cells.nrows (replicate (cells.ncols * cells.nrows) None) p.0 p.1 (Some k) (All-replicate (λ (o : Option ℕ). o ≡ None) (cells.ncols * cells.nrows) None refl) is in
-      cc)
+    let none : Some k ≡ None = rows_hold (λ (o : Option ℕ). o ≡ None) cells.ncols cells.nrows (replicate (cells.ncols * cells.nrows) None) p.0 p.1 (Some k) (All-replicate (λ (o : Option ℕ). o ≡ None) (cells.ncols * cells.nrows) None refl) is in
+    cc)

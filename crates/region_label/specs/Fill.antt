@@ -1,6 +1,6 @@
 -- How far a labelling has come.
 use Rattle.std.specs.Prelude.{◌≡◌, ℕ, zero, suc, ◌+◌, ◌*◌, ◌<◌, ◌≤◌, ◌⊎◌, Bool, true, false, List, Option, Some, None, Contains, length, slice_get, if◌then◌else◌}
-use Rattle.cell_base.specs.Raster.{Place, Raster, IsInside, IsRaster, value_at}
+use Rattle.cell_base.specs.Raster.{Place, Raster, IsRaster, value_at}
 use Rattle.cell_base.specs.Valid.{IsMarked}
 use Rattle.cell_base.specs.Order.{IsBefore}
 use Rattle.region_label.specs.Component.{InComponent, IsFirst}

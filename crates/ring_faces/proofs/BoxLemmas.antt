@@ -1,6 +1,6 @@
 -- What lies inside a ring is within its box.
-use Rattle.std.proofs.Common.{◌≡◌, ℕ, zero, suc, ◌+◌, ◌*◌, ◌%◌, ◌<◌, ◌≤◌, ◌⊎◌, inl, inr, Bool, true, false, List, [], ◌∷◌, refl, sym, ap, ◌∙◌, cond, arith}
-use Rattle.std.specs.Prelude.{◌==◌, ◌&&◌, nat_le, count_by}
+use Rattle.std.proofs.Common.{◌≡◌, ℕ, ◌+◌, ◌%◌, ◌<◌, ◌≤◌, inl, inr, Bool, true, false, List, [], ◌∷◌, refl, sym, ap, ◌∙◌, cond, arith}
+use Rattle.std.specs.Prelude.{◌==◌, ◌&&◌, nat_le}
 use Rattle.std.specs.List.{list_all}
 use Rattle.std.proofs.lemmas.Bool.{eqb-true, cases_lt}
 use Rattle.std.proofs.lemmas.List.Sums.{sum_by-cons}
@@ -8,7 +8,7 @@ use Rattle.std.proofs.lemmas.Bool.Decides.{nat_tests}
 use Rattle.cell_base.specs.Raster.{Place}
 use Rattle.edge_trace.specs.Edge.{Edge}
 use Rattle.edge_trace.specs.Crossing.{is_crossed, crossing_count, IsEnclosed}
-use Rattle.ring_faces.proofs.TestLemmas.{all_below, below_by, both}
+use Rattle.cell_base.proofs.TestLemmas.{all_below, below_by, both}
 
 abbrev pub is_within : ℕ → ℕ → Edge → Bool
 is_within nrows ncols e = (nat_le e.0.0 nrows && nat_le e.1.0 nrows) && (nat_le e.0.1 ncols && nat_le e.1.1 ncols)
@@ -45,9 +45,11 @@ pub enclosed_within : (nrows ncols : ℕ) (edges : List Edge) (cell : Place) →
 enclosed_within nrows ncols edges cell boxed odd =
     let parts = both (list_all (is_within nrows ncols) edges) (all_below (λ r. (crossing_count edges (r, ncols) % 2) == 0) nrows) boxed in
     elim (cases_lt cell.0 nrows) [
-        inl in_row ↦ elim (cases_lt cell.1 ncols) [
-            inl in_col ↦ (in_row, in_col)
-          | inr past ↦
-              let even : crossing_count edges (cell.0, ncols) % 2 ≡ 0 = eqb-true (crossing_count edges (cell.0, ncols) % 2) 0 (below_by (λ r. (crossing_count edges (r, ncols) % 2) == 0) nrows cell.0 parts.1 in_row) in
-              absurd (omega (arith, odd, even, count_far_col nrows ncols cell.0 cell.1 edges parts.0 past)) ]
-      | inr past ↦ absurd (omega (arith, odd, count_far_row nrows ncols cell.0 cell.1 edges parts.0 past)) ]
+      | inl in_row ↦ elim (cases_lt cell.1 ncols) [
+        | inl in_col ↦ (in_row, in_col)
+        | inr past ↦
+            let even : crossing_count edges (cell.0, ncols) % 2 ≡ 0 = eqb-true (crossing_count edges (cell.0, ncols) % 2) 0 (below_by (λ r. (crossing_count edges (r, ncols) % 2) == 0) nrows cell.0 parts.1 in_row) in
+            absurd (omega (arith, odd, even, count_far_col nrows ncols cell.0 cell.1 edges parts.0 past))
+      ]
+      | inr past ↦ absurd (omega (arith, odd, count_far_row nrows ncols cell.0 cell.1 edges parts.0 past))
+    ]

@@ -1,18 +1,17 @@
 -- A test of canonical polygons that computes, and what it tells.
-use Rattle.std.proofs.Common.{◌≡◌, ◌≢◌, ℕ, ◌+◌, ◌<◌, ◌⊎◌, inl, inr, Bool, true, false, not, List, [], ◌∷◌, Option, Some, None, refl, sym, ap, ◌∙◌, arith}
-use Rattle.std.specs.Prelude.{◌==◌, ◌&&◌, ◌||◌, nat_lt, All, AllPairs, Contains, slice_get}
+use Rattle.std.proofs.Common.{◌≡◌, ℕ, ◌<◌, inl, inr, Bool, true, false, not, List, [], ◌∷◌, refl, arith}
+use Rattle.std.specs.Prelude.{◌==◌, ◌&&◌, ◌||◌, nat_lt, Contains}
 use Rattle.std.specs.List.{list_all, list_any}
 use Rattle.std.proofs.lemmas.Bool.{eqb-true, eq-eqb, false≢true}
 use Rattle.std.proofs.lemmas.Bool.Decides.{nat_tests}
 use Rattle.cell_base.specs.Raster.{Place}
 use Rattle.cell_base.specs.Order.{IsBefore}
-use Rattle.cell_base.specs.Walk.{IsConnected}
-use Rattle.edge_trace.specs.Edge.{Corner, Edge, HasOnLeft, edges_round}
+use Rattle.edge_trace.specs.Edge.{Edge, edges_round}
 use Rattle.ring_faces.specs.Ring.{Ring, pairs_round, IsInsideRing, IsSimpleRing}
 use Rattle.ring_faces.specs.LatticePolygon.{Polygon, rings_of, IsCovered, SharesNoEdge, SharesNoCell, DoNotCross, IsValidPolygon}
 use Rattle.ring_faces.specs.EdgePolygon.{all_edges}
 use Rattle.ring_faces.specs.CanonicalPolygon.{IsLevel, IsUpright, IsTurn, ListsTurns, StartsLeast, StartsBefore, IsCanonicalPolygon}
-use Rattle.ring_faces.proofs.TestLemmas.{all_by, all_pairs, any_by, both, each_by, either, has, has_tells, not_true, pairs_by}
+use Rattle.cell_base.proofs.TestLemmas.{all_by, all_pairs, any_by, both, each_by, either, has, has_tells, not_true, pairs_by}
 use Rattle.ring_faces.proofs.PlaceTests.{same_edge, same_edge_tells}
 use Rattle.ring_faces.proofs.PolygonTests.{is_covered, is_covered_tells, is_hole_in, is_hole_in_tells, is_simple, is_simple_tells, is_spanned, is_spanned_tells, shares_no_cell, shares_no_cell_tells, shares_no_edge, shares_no_edge_tells}
 use Rattle.ring_faces.proofs.ValidTests.{are_holes_spanned, covers_list, covers_list_tells, do_not_cross, do_not_cross_tells, holes_spanned_tells}
@@ -75,12 +74,13 @@ upright_tells side is =
 
 turn_tells : (sides : Edge × Edge) → is_turn sides ≡ true → IsTurn sides
 turn_tells sides is = elim (either (is_level sides.0 && is_upright sides.1) (is_upright sides.0 && is_level sides.1) is) [
-    inl first ↦
+  | inl first ↦
       let parts = both (is_level sides.0) (is_upright sides.1) first in
       inl (level_tells sides.0 parts.0, upright_tells sides.1 parts.1)
   | inr second ↦
       let parts = both (is_upright sides.0) (is_level sides.1) second in
-      inr (upright_tells sides.0 parts.0, level_tells sides.1 parts.1) ]
+      inr (upright_tells sides.0 parts.0, level_tells sides.1 parts.1)
+]
 
 abbrev pub lists_turns : Ring → Bool
 lists_turns ring = list_all is_turn (pairs_round (pairs_round ring))
@@ -96,10 +96,11 @@ lt_tells m n is = grind (arith, nat_tests)
 
 before_tells : (a b : Place) → is_before a b ≡ true → IsBefore a b
 before_tells a b is = elim (either (nat_lt a.0 b.0) ((a.0 == b.0) && nat_lt a.1 b.1) is) [
-    inl above ↦ inl (lt_tells a.0 b.0 above)
+  | inl above ↦ inl (lt_tells a.0 b.0 above)
   | inr level ↦
       let parts = both (a.0 == b.0) (nat_lt a.1 b.1) level in
-      inr (eqb-true a.0 b.0 parts.0, lt_tells a.1 b.1 parts.1) ]
+      inr (eqb-true a.0 b.0 parts.0, lt_tells a.1 b.1 parts.1)
+]
 
 abbrev pub starts_least : Ring → Bool
 starts_least [] = false
@@ -142,8 +143,8 @@ is_canonical_tells nrows ncols cells hole_cells polygon is =
       valid = is_valid_tells nrows ncols cells hole_cells polygon one.0;
       covers = covers_list_tells nrows ncols polygon cells two.0;
       left = λ e member.
-        let found = any_by (λ cell. has same_edge (edges_round cell) e) cells (each_by (λ f. list_any (λ cell. has same_edge (edges_round cell) f) cells) (all_edges polygon) e three.0 member) in
-        (found.0, has_tells same_edge same_edge_tells (edges_round found.0) e found.2, found.1);
+          let found = any_by (λ cell. has same_edge (edges_round cell) e) cells (each_by (λ f. list_any (λ cell. has same_edge (edges_round cell) f) cells) (all_edges polygon) e three.0 member) in
+          (found.0, has_tells same_edge same_edge_tells (edges_round found.0) e found.2, found.1);
       turns = all_by ListsTurns lists_turns lists_turns_tells (rings_of polygon) four.0;
       starts = all_by StartsLeast starts_least starts_least_tells (rings_of polygon) five.0;
       order = pairs_by StartsBefore starts_before starts_before_tells polygon.holes five.1;

@@ -1,14 +1,14 @@
 -- Worked grids: the boundary edges of their components, and the cells that these enclose.
-use Rattle.std.proofs.Common.{◌≡◌, ◌+◌, ◌%◌, Bool, true, false, not, List, [], ◌∷◌, length, refl, lit<}
+use Rattle.std.proofs.Common.{◌≡◌, ◌%◌, Bool, true, List, [], ◌∷◌, length, refl, lit<}
 use Rattle.std.specs.Prelude.{◌==◌, ◌&&◌, Contains}
 use Rattle.cell_base.specs.Raster.{Place}
-use Rattle.edge_trace.specs.Edge.{Edge, HasOnLeft, HasOnRight, IsBoundaryEdge, edges_round, turned}
+use Rattle.edge_trace.specs.Edge.{HasOnLeft, HasOnRight}
 use Rattle.edge_trace.specs.Crossing.{crossing_count}
 use Rattle.ring_faces.specs.LatticePolygon.{Polygon}
 use Rattle.ring_faces.specs.EdgePolygon.{all_edges, IsEdgePolygon}
-use Rattle.ring_faces.proofs.TestLemmas.{has, implies, in_box}
+use Rattle.cell_base.proofs.TestLemmas.{has, implies, in_box}
 use Rattle.ring_faces.proofs.PlaceTests.{same_place}
-use Rattle.ring_faces.proofs.EdgeTests.{is_boundary_tells, is_edge_polygon_tells}
+use Rattle.ring_faces.proofs.EdgeTests.{is_edge_polygon_tells}
 use Rattle.ring_faces.proofs.PolygonRows.{corner_ones, frame, frame_polygon, notched, notched_polygon, plain, two_holed, two_holed_polygon}
 
 -- in so many rows and columns the edges of all rings enclose the cells of the list and no other

@@ -1,13 +1,13 @@
 -- A test of edge polygons that computes, and what it tells.
-use Rattle.std.proofs.Common.{◌≡◌, ◌≢◌, ℕ, ◌⊎◌, ◌↔◌, inl, inr, Bool, true, false, not, List, [], ◌∷◌, length, refl, sym, ap, ◌∙◌}
-use Rattle.std.specs.Prelude.{◌&&◌, ◌||◌, nat_le, All, AllPairs, Contains}
+use Rattle.std.proofs.Common.{◌≡◌, ◌≢◌, Bool, true, not, List, length}
+use Rattle.std.specs.Prelude.{◌&&◌, nat_le, Contains}
 use Rattle.std.specs.List.{list_all, list_any}
 use Rattle.cell_base.specs.Raster.{Place}
-use Rattle.edge_trace.specs.Edge.{Edge, IsUnitEdge, HasOnLeft, HasOnRight, IsBoundaryEdge, edges_round, turned}
-use Rattle.ring_faces.specs.Ring.{Ring, edges_of, IsRing, IsSimpleRing}
+use Rattle.edge_trace.specs.Edge.{Edge, IsUnitEdge, HasOnLeft, IsBoundaryEdge, edges_round, turned}
+use Rattle.ring_faces.specs.Ring.{Ring, edges_of, IsRing}
 use Rattle.ring_faces.specs.LatticePolygon.{Polygon, rings_of}
 use Rattle.ring_faces.specs.EdgePolygon.{all_edges, IsEdgePolygon}
-use Rattle.ring_faces.proofs.TestLemmas.{all_by, all_pairs, any_by, any_told, both, both_back, each_by, has, has_tells, has_told, implied, implies, not_true, pairs_by, true_of_not}
+use Rattle.cell_base.proofs.TestLemmas.{all_by, all_pairs, any_by, any_told, both, both_back, each_by, has, has_tells, has_told, implied, implies, not_true, pairs_by, true_of_not}
 use Rattle.ring_faces.proofs.PlaceTests.{is_unit, is_unit_tells, same_edge, same_edge_tells, same_edge_told}
 use Rattle.ring_faces.proofs.PolygonTests.{le_tells}
 
@@ -36,8 +36,8 @@ is_boundary_tells cells e is =
 
 pub is_boundary_told : (cells : List Place) (e : Edge) → IsBoundaryEdge (Contains cells) e → is_boundary cells e ≡ true
 is_boundary_told cells e is = both_back (is_left cells e) (not (is_left cells (turned e))) (left_told cells e is.left.0 is.left.1 is.left.2) (true_of_not (is_left cells (turned e)) (λ left.
-  let found = left_tells cells (turned e) left in
-  is.right found.0 found.1 found.2))
+    let found = left_tells cells (turned e) left in
+    is.right found.0 found.1 found.2))
 
 abbrev pub is_ring : Ring → Bool
 is_ring ring = list_all is_unit (edges_of ring) && nat_le 4 (length (edges_of ring))
@@ -62,11 +62,13 @@ is_edge_polygon_tells cells polygon is =
     record {
       closed = all_by IsRing is_ring is_ring_tells (rings_of polygon) rings.0;
       edges = record {
-        all = λ e. (λ member. is_boundary_tells cells e (each_by (is_boundary cells) (all_edges polygon) e two.0 member),
-                    λ boundary.
-                      let row = each_by (λ cell. list_all (λ f. implies (is_boundary cells f) (has same_edge (all_edges polygon) f)) (edges_round cell)) cells boundary.left.0 two.1 boundary.left.2 in
-                      let at = each_by (λ f. implies (is_boundary cells f) (has same_edge (all_edges polygon) f)) (edges_round boundary.left.0) e row boundary.left.1 in
-                      has_tells same_edge same_edge_tells (all_edges polygon) e (implied (is_boundary cells e) (has same_edge (all_edges polygon) e) at (is_boundary_told cells e boundary)));
+        all = λ e. (
+          λ member. is_boundary_tells cells e (each_by (is_boundary cells) (all_edges polygon) e two.0 member),
+          λ boundary.
+              let row = each_by (λ cell. list_all (λ f. implies (is_boundary cells f) (has same_edge (all_edges polygon) f)) (edges_round cell)) cells boundary.left.0 two.1 boundary.left.2 in
+              let at = each_by (λ f. implies (is_boundary cells f) (has same_edge (all_edges polygon) f)) (edges_round boundary.left.0) e row boundary.left.1 in
+              has_tells same_edge same_edge_tells (all_edges polygon) e (implied (is_boundary cells e) (has same_edge (all_edges polygon) e) at (is_boundary_told cells e boundary)),
+        );
         once = pairs_by (λ e f. e ≢ f) (λ e f. not (same_edge e f)) (λ e f other same. not_true (same_edge e f) other (same_edge_told e f same)) (all_edges polygon) rings.1;
       };
     }

@@ -1,4 +1,3 @@
-pub mod TestLemmas
 pub mod PlaceTests
 pub mod BoxLemmas
 pub mod PolygonTests

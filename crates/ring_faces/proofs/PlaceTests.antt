@@ -1,11 +1,11 @@
 -- Tests of places and edges.
-use Rattle.std.proofs.Common.{◌≡◌, ℕ, ◌+◌, ◌⊎◌, inl, inr, Bool, true, refl, ap, cond}
-use Rattle.std.specs.Prelude.{◌==◌, ◌&&◌, ◌||◌, nat_lt}
+use Rattle.std.proofs.Common.{◌≡◌, ℕ, ◌+◌, inl, inr, Bool, true, ap}
+use Rattle.std.specs.Prelude.{◌==◌, ◌&&◌, ◌||◌}
 use Rattle.std.proofs.lemmas.Bool.{eqb-true, eq-eqb}
 use Rattle.cell_base.specs.Raster.{Place}
 use Rattle.cell_base.specs.Steps.{AreNext, SharesSide}
-use Rattle.edge_trace.specs.Edge.{Corner, Edge, IsUnitEdge}
-use Rattle.ring_faces.proofs.TestLemmas.{both, both_back, either}
+use Rattle.edge_trace.specs.Edge.{Edge, IsUnitEdge}
+use Rattle.cell_base.proofs.TestLemmas.{both, both_back, either}
 
 abbrev pub same_place : Place → Place → Bool
 same_place a b = (a.0 == b.0) && (a.1 == b.1)
@@ -46,12 +46,13 @@ shares_side a b = ((a.0 == b.0) && are_next a.1 b.1) || ((a.1 == b.1) && are_nex
 
 pub shares_side_tells : (a b : Place) → shares_side a b ≡ true → SharesSide a b
 shares_side_tells a b is = elim (either ((a.0 == b.0) && are_next a.1 b.1) ((a.1 == b.1) && are_next a.0 b.0) is) [
-    inl level ↦
+  | inl level ↦
       let parts = both (a.0 == b.0) (are_next a.1 b.1) level in
       inl (eqb-true a.0 b.0 parts.0, next_tells a.1 b.1 parts.1)
   | inr upright ↦
       let parts = both (a.1 == b.1) (are_next a.0 b.0) upright in
-      inr (eqb-true a.1 b.1 parts.0, next_tells a.0 b.0 parts.1) ]
+      inr (eqb-true a.1 b.1 parts.0, next_tells a.0 b.0 parts.1)
+]
 
 -- a unit edge joins corners as neighbouring cells are joined
 abbrev pub is_unit : Edge → Bool

@@ -1,5 +1,5 @@
 -- Worked grids: the canonical polygons of their components. Each grid is told in the comment above its polygons.
-use Rattle.std.proofs.Common.{◌≡◌, List, [], ◌∷◌, refl}
+use Rattle.std.proofs.Common.{List, [], ◌∷◌, refl}
 use Rattle.std.specs.Prelude.{Contains}
 use Rattle.cell_base.specs.Raster.{Place}
 use Rattle.ring_faces.specs.Ring.{Ring}

@@ -1,20 +1,19 @@
 -- Tests of polygons that compute, and what they tell.
-use Rattle.std.proofs.Common.{◌≡◌, ◌≢◌, ℕ, ◌+◌, ◌%◌, ◌<◌, ◌≤◌, ◌⊎◌, ◌↔◌, inl, inr, Bool, true, false, not, List, [], ◌∷◌, length, refl, sym, ap, ◌∙◌, subst, arith}
-use Rattle.std.specs.Prelude.{◌==◌, ◌&&◌, ◌||◌, nat_le, All, AllPairs, Contains}
+use Rattle.std.proofs.Common.{◌≡◌, ◌≢◌, ℕ, ◌%◌, ◌≤◌, inl, inr, Bool, true, false, not, List, [], ◌∷◌, length, subst, arith}
+use Rattle.std.specs.Prelude.{◌==◌, ◌&&◌, ◌||◌, nat_le, Contains}
 use Rattle.std.specs.List.{list_all, list_any}
-use Rattle.std.proofs.lemmas.Bool.{eqb-true, eq-eqb, false≢true}
+use Rattle.std.proofs.lemmas.Bool.{eqb-true, eq-eqb}
 use Rattle.std.proofs.lemmas.Bool.Decides.{nat_tests}
-use Rattle.std.proofs.lemmas.List.Elements.{All-nil, All-cons}
 use Rattle.cell_base.specs.Raster.{Place}
 use Rattle.cell_base.specs.Walk.{IsConnected, IsJoined}
 use Rattle.cell_base.proofs.WalkLemmas.{joined_itself, joined_more, joined_sym, joined_trans}
 use Rattle.edge_trace.specs.Edge.{Edge, IsUnitEdge, turned}
 use Rattle.edge_trace.specs.Crossing.{crossing_count}
-use Rattle.ring_faces.specs.Ring.{Ring, edges_of, corners_of, RunsAlong, IsInsideRing, IsRing, IsSimpleRing}
-use Rattle.ring_faces.specs.LatticePolygon.{Polygon, rings_of, IsCovered, SharesNoEdge, SharesNoCell, PassesUpright, PassesLevel, DoNotCross, IsValidPolygon}
-use Rattle.ring_faces.proofs.TestLemmas.{all_by, all_back, all_pairs, any_by, both, both_back, box_by, contains_cases, contains_here, each_by, either, either_left, either_right, has, has_told, implied, implies, in_box, not_true, pairs_by, true_of_not}
-use Rattle.ring_faces.proofs.PlaceTests.{is_unit, is_unit_tells, same_edge, same_edge_told, same_place, same_place_tells, same_place_told, shares_side, shares_side_tells}
-use Rattle.ring_faces.proofs.BoxLemmas.{enclosed_within, is_boxed, is_within}
+use Rattle.ring_faces.specs.Ring.{Ring, edges_of, corners_of, RunsAlong, IsInsideRing, IsSimpleRing}
+use Rattle.ring_faces.specs.LatticePolygon.{Polygon, IsCovered, SharesNoEdge, SharesNoCell}
+use Rattle.cell_base.proofs.TestLemmas.{all_by, all_back, all_pairs, any_by, both, both_back, box_by, contains_cases, each_by, either_left, either_right, has, has_told, implied, implies, in_box, not_true, pairs_by, true_of_not}
+use Rattle.ring_faces.proofs.PlaceTests.{is_unit, is_unit_tells, same_edge, same_edge_told, same_place, same_place_told, shares_side, shares_side_tells}
+use Rattle.ring_faces.proofs.BoxLemmas.{enclosed_within, is_boxed}
 
 -- simple rings
 
@@ -122,8 +121,9 @@ spanned set test tells root seen (c ∷ cs) joined all spanning p member =
     let near = any_by (λ s. shares_side s c) seen parts.0 in
     let to_c : IsJoined false set root c = joined_more false set root near.0 c (joined near.0 near.1) (shares_side_tells near.0 c near.2) (tells c cells.0) in
     elim (contains_cases c cs p member) [
-        inl here ↦ subst (λ (q : Place). IsJoined false set root q) here to_c
-      | inr there ↦ spanned set test tells root (c ∷ seen) cs (λ q seen_q. elim (contains_cases c seen q seen_q) [ inl same ↦ subst (λ (s : Place). IsJoined false set root s) same to_c | inr old ↦ joined q old ]) cells.1 parts.1 p there ]
+      | inl here ↦ subst (λ (q : Place). IsJoined false set root q) here to_c
+      | inr there ↦ spanned set test tells root (c ∷ seen) cs (λ q seen_q. elim (contains_cases c seen q seen_q) [ inl same ↦ subst (λ (s : Place). IsJoined false set root s) same to_c | inr old ↦ joined q old ]) cells.1 parts.1 p there
+    ]
 
 abbrev pub is_spanned : (Place → Bool) → List Place → Bool
 is_spanned test [] = true
@@ -137,6 +137,7 @@ is_spanned_tells set test tells (root ∷ rest) is told a b in_a in_b =
     let itself : IsJoined false set root root = joined_itself false set root (tells root cells.0) in
     let first : (p : Place) → Contains (root ∷ []) p → IsJoined false set root p = λ p member. elim (contains_cases root [] p member) [ inl here ↦ subst (λ (q : Place). IsJoined false set root q) here itself | inr there ↦ absurd (omega (arith, there.1)) ] in
     let reached : (p : Place) → set p → IsJoined false set root p = λ p in_p. elim (contains_cases root rest p (told p in_p)) [
-        inl here ↦ subst (λ (q : Place). IsJoined false set root q) here itself
-      | inr there ↦ spanned set test tells root (root ∷ []) rest first cells.1 parts.1 p there ] in
+      | inl here ↦ subst (λ (q : Place). IsJoined false set root q) here itself
+      | inr there ↦ spanned set test tells root (root ∷ []) rest first cells.1 parts.1 p there
+    ] in
     joined_trans false set a root b (joined_sym false set root a (reached a in_a)) (reached b in_b)

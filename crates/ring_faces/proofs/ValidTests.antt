@@ -1,22 +1,19 @@
 -- A test of valid and of canonical polygons that computes, and what it tells.
-use Rattle.std.proofs.Common.{◌≡◌, ◌≢◌, ℕ, ◌+◌, ◌<◌, ◌≤◌, ◌⊎◌, ◌↔◌, inl, inr, Bool, true, false, not, List, [], ◌∷◌, Some, length, refl, sym, ap, ◌∙◌, subst, arith}
-use Rattle.std.specs.Prelude.{◌==◌, ◌&&◌, ◌||◌, nat_le, nat_lt, All, AllPairs, Contains, slice_get}
-use Rattle.std.specs.List.{list_all, list_any}
-use Rattle.std.proofs.lemmas.Bool.{eqb-true, eq-eqb, false≢true}
+use Rattle.std.proofs.Common.{◌≡◌, ℕ, ◌+◌, ◌≤◌, ◌↔◌, inl, inr, Bool, true, false, not, List, [], ◌∷◌, arith}
+use Rattle.std.specs.Prelude.{◌&&◌, All, Contains}
+use Rattle.std.specs.List.{list_all}
+use Rattle.std.proofs.lemmas.Bool.{false≢true}
 use Rattle.std.proofs.lemmas.Bool.Decides.{nat_tests}
-use Rattle.std.proofs.lemmas.List.Elements.{All-nil, All-cons, All-contains}
+use Rattle.std.proofs.lemmas.List.Elements.{All-nil, All-cons}
 use Rattle.cell_base.specs.Raster.{Place}
-use Rattle.cell_base.specs.Order.{IsBefore}
 use Rattle.cell_base.specs.Walk.{IsConnected}
-use Rattle.edge_trace.specs.Edge.{Corner, Edge, HasOnLeft, edges_round}
-use Rattle.ring_faces.specs.Ring.{Ring, edges_of, pairs_round, RunsAlong, IsInsideRing, IsSimpleRing}
-use Rattle.ring_faces.specs.LatticePolygon.{Polygon, rings_of, IsCovered, SharesNoEdge, SharesNoCell, PassesUpright, PassesLevel, DoNotCross, IsValidPolygon}
-use Rattle.ring_faces.specs.EdgePolygon.{all_edges}
-use Rattle.ring_faces.specs.CanonicalPolygon.{IsLevel, IsUpright, IsTurn, ListsTurns, StartsLeast, StartsBefore, IsCanonicalPolygon}
-use Rattle.ring_faces.proofs.TestLemmas.{all_by, all_pairs, any_by, both, both_back, box_by, each_by, either, has, has_tells, has_told, implied, implies, in_box, not_true, pairs_by}
-use Rattle.ring_faces.proofs.PlaceTests.{same_edge, same_edge_tells, same_edge_told, same_place, same_place_tells, same_place_told}
-use Rattle.ring_faces.proofs.BoxLemmas.{enclosed_within, is_within}
-use Rattle.ring_faces.proofs.PolygonTests.{inside_by, is_covered, is_covered_tells, is_covered_told, is_hole_in, is_hole_in_tells, is_inside, is_inside_tells, is_inside_told, is_ring_boxed, is_simple, is_simple_tells, is_spanned, is_spanned_tells, runs_along, runs_told, shares_no_cell, shares_no_cell_tells, shares_no_edge, shares_no_edge_tells}
+use Rattle.edge_trace.specs.Edge.{Edge}
+use Rattle.ring_faces.specs.Ring.{Ring, edges_of, RunsAlong, IsInsideRing}
+use Rattle.ring_faces.specs.LatticePolygon.{Polygon, IsCovered, PassesUpright, PassesLevel, DoNotCross}
+use Rattle.cell_base.proofs.TestLemmas.{both, both_back, box_by, each_by, has, has_tells, implied, implies, in_box, not_true}
+use Rattle.ring_faces.proofs.PlaceTests.{same_place, same_place_tells}
+use Rattle.ring_faces.proofs.BoxLemmas.{is_within}
+use Rattle.ring_faces.proofs.PolygonTests.{inside_by, is_covered, is_covered_tells, is_covered_told, is_inside, is_inside_tells, is_inside_told, is_ring_boxed, is_spanned, is_spanned_tells, runs_along, runs_told}
 
 -- crossing rings
 
@@ -54,13 +51,14 @@ pub do_not_cross_tells : (nrows ncols : ℕ) (g h : Ring) → do_not_cross nrows
 do_not_cross_tells nrows ncols g h is row col =
     let parts = both (are_within nrows ncols g) (in_box nrows ncols (λ p. not (passes_upright g p && passes_level h p) && not (passes_level g p && passes_upright h p))) is in
     let at : row + 1 ≤ nrows → col + 1 ≤ ncols → (not (passes_upright g (row, col) && passes_level h (row, col)) ≡ true) × (not (passes_level g (row, col) && passes_upright h (row, col)) ≡ true) =
-        λ in_row in_col. both (not (passes_upright g (row, col) && passes_level h (row, col))) (not (passes_level g (row, col) && passes_upright h (row, col))) (box_by nrows ncols (λ p. not (passes_upright g p && passes_level h p) && not (passes_level g p && passes_upright h p)) (row, col) parts.1 (omega arith) (omega arith)) in
-    (λ cross.
-       let end = runs_within nrows ncols g ((row, col + 1), (row + 1, col + 1)) parts.0 cross.0.0 in
-       not_true (passes_upright g (row, col) && passes_level h (row, col)) (at end.0 end.1).0 (both_back (passes_upright g (row, col)) (passes_level h (row, col)) (upright_told g row col cross.0) (level_told h row col cross.1)),
-     λ cross.
-       let end = runs_within nrows ncols g ((row + 1, col), (row + 1, col + 1)) parts.0 cross.0.0 in
-       not_true (passes_level g (row, col) && passes_upright h (row, col)) (at end.0 end.1).1 (both_back (passes_level g (row, col)) (passes_upright h (row, col)) (level_told g row col cross.0) (upright_told h row col cross.1)))
+    λ in_row in_col. both (not (passes_upright g (row, col) && passes_level h (row, col))) (not (passes_level g (row, col) && passes_upright h (row, col))) (box_by nrows ncols (λ p. not (passes_upright g p && passes_level h p) && not (passes_level g p && passes_upright h p)) (row, col) parts.1 (omega arith) (omega arith)) in (
+      λ cross.
+          let end = runs_within nrows ncols g ((row, col + 1), (row + 1, col + 1)) parts.0 cross.0.0 in
+          not_true (passes_upright g (row, col) && passes_level h (row, col)) (at end.0 end.1).0 (both_back (passes_upright g (row, col)) (passes_level h (row, col)) (upright_told g row col cross.0) (level_told h row col cross.1)),
+      λ cross.
+          let end = runs_within nrows ncols g ((row + 1, col), (row + 1, col + 1)) parts.0 cross.0.0 in
+          not_true (passes_level g (row, col) && passes_upright h (row, col)) (at end.0 end.1).1 (both_back (passes_level g (row, col)) (passes_upright h (row, col)) (level_told g row col cross.0) (upright_told h row col cross.1)),
+    )
 
 -- holes and the cells inside them, each list spanning its hole
 
@@ -73,7 +71,7 @@ hole_spanned_tells nrows ncols hole cells is =
     let parts = both (is_ring_boxed nrows ncols hole && in_box nrows ncols (λ p. implies (is_inside hole p) (has same_place cells p))) (is_spanned (is_inside hole) cells) is in
     let box = both (is_ring_boxed nrows ncols hole) (in_box nrows ncols (λ p. implies (is_inside hole p) (has same_place cells p))) parts.0 in
     is_spanned_tells (IsInsideRing hole) (is_inside hole) (is_inside_tells hole) cells parts.1 (λ p inside.
-      has_tells same_place same_place_tells cells p (implied (is_inside hole p) (has same_place cells p) (inside_by nrows ncols hole (λ q. implies (is_inside hole q) (has same_place cells q)) p box.0 box.1 inside) (is_inside_told hole p inside)))
+    has_tells same_place same_place_tells cells p (implied (is_inside hole p) (has same_place cells p) (inside_by nrows ncols hole (λ q. implies (is_inside hole q) (has same_place cells q)) p box.0 box.1 inside) (is_inside_told hole p inside)))
 
 abbrev pub are_holes_spanned : ℕ → ℕ → List Ring → List (List Place) → Bool
 are_holes_spanned nrows ncols [] cells = true
@@ -96,6 +94,7 @@ covers_list nrows ncols polygon cells =
 pub covers_list_tells : (nrows ncols : ℕ) (polygon : Polygon) (cells : List Place) → covers_list nrows ncols polygon cells ≡ true → (p : Place) → IsCovered polygon p ↔ Contains cells p
 covers_list_tells nrows ncols polygon cells is p =
     let parts = both (is_ring_boxed nrows ncols polygon.shell && in_box nrows ncols (λ q. implies (is_covered polygon q) (has same_place cells q))) (list_all (is_covered polygon) cells) is in
-    let box = both (is_ring_boxed nrows ncols polygon.shell) (in_box nrows ncols (λ q. implies (is_covered polygon q) (has same_place cells q))) parts.0 in
-    (λ covered. has_tells same_place same_place_tells cells p (implied (is_covered polygon p) (has same_place cells p) (inside_by nrows ncols polygon.shell (λ q. implies (is_covered polygon q) (has same_place cells q)) p box.0 box.1 covered.shell) (is_covered_told polygon p covered)),
-     λ member. is_covered_tells polygon p (each_by (is_covered polygon) cells p parts.1 member))
+    let box = both (is_ring_boxed nrows ncols polygon.shell) (in_box nrows ncols (λ q. implies (is_covered polygon q) (has same_place cells q))) parts.0 in (
+      λ covered. has_tells same_place same_place_tells cells p (implied (is_covered polygon p) (has same_place cells p) (inside_by nrows ncols polygon.shell (λ q. implies (is_covered polygon q) (has same_place cells q)) p box.0 box.1 covered.shell) (is_covered_told polygon p covered)),
+      λ member. is_covered_tells polygon p (each_by (is_covered polygon) cells p parts.1 member),
+    )

@@ -1,5 +1,5 @@
 -- Polygons that the definition refuses.
-use Rattle.std.proofs.Common.{◌≡◌, ℕ, zero, suc, ◌+◌, ◌<◌, ◌⊎◌, inl, inr, false, List, [], ◌∷◌, refl, ap, subst, arith, lit<}
+use Rattle.std.proofs.Common.{◌≡◌, ℕ, zero, suc, ◌+◌, inl, inr, false, List, [], ◌∷◌, refl, ap, subst, arith, lit<}
 use Rattle.std.proofs.lemmas.Bool.{false≢true}
 use Rattle.edge_trace.specs.Edge.{Edge, HasOnLeft}
 use Rattle.ring_faces.proofs.PlaceTests.{same_place, same_place_told}
@@ -9,7 +9,7 @@ use Rattle.cell_base.specs.Steps.{SharesSide}
 use Rattle.cell_base.specs.Walk.{IsWalk, StepsInto}
 use Rattle.ring_faces.specs.LatticePolygon.{Polygon, IsCovered, IsValidPolygon}
 use Rattle.ring_faces.specs.CanonicalPolygon.{IsCanonicalPolygon}
-use Rattle.ring_faces.proofs.TestLemmas.{contains_cases, has_told}
+use Rattle.cell_base.proofs.TestLemmas.{contains_cases, has_told}
 use Rattle.ring_faces.proofs.PolygonRows.{corner_ones, frame, frame_polygon, plain, two_holed}
 
 -- two holes as one ring, which visits the corner where they touch twice
@@ -82,10 +82,12 @@ not_beside c (inr (col, inr down)) same = omega arith
 
 stays_first : (c : Place) → SharesSide (0, 0) c → Contains corner_pair c → ⊥
 stays_first c step member = elim (contains_cases (0, 0) ((1, 1) ∷ []) c member) [
-    inl first ↦ not_beside c step (subst (λ (p : Place). p.0 ≡ p.1) first refl)
+  | inl first ↦ not_beside c step (subst (λ (p : Place). p.0 ≡ p.1) first refl)
   | inr rest ↦ elim (contains_cases (1, 1) [] c rest) [
-        inl second ↦ not_beside c step (subst (λ (p : Place). p.0 ≡ p.1) second refl)
-      | inr none ↦ omega (arith, none.1) ] ]
+    | inl second ↦ not_beside c step (subst (λ (p : Place). p.0 ≡ p.1) second refl)
+    | inr none ↦ omega (arith, none.1)
+  ]
+]
 
 no_walk : (set : Place → Type 0) → ((p : Place) → set p → Contains corner_pair p) → (walk : List Place) → IsWalk (StepsInto false set) (0, 0) walk (1, 1) → ⊥
 no_walk set tells [] walked = omega (arith, ap (λ (p : Place). p.0) walked)

@@ -1,5 +1,5 @@
 -- The one polygon of a set of cells, as a list of corners. The orientation, the starts and the order are this project's own.
-use Rattle.std.specs.Prelude.{◌≡◌, ◌≢◌, ℕ, ◌↔◌, ◌⊎◌, Bool, false, List, [], ◌∷◌, Some, All, AllPairs, Contains, IfOk, slice_get}
+use Rattle.std.specs.Prelude.{◌≡◌, ◌≢◌, ℕ, ◌↔◌, ◌⊎◌, Bool, false, [], ◌∷◌, Some, All, AllPairs, Contains, slice_get}
 use Rattle.cell_base.specs.Raster.{Place, Raster}
 use Rattle.cell_base.specs.Order.{IsBefore}
 use Rattle.region_label.specs.Component.{InComponent, IsFirst}

@@ -1,5 +1,5 @@
 -- Valid polygons whose rings run along the sides of cells: the rules for a Polygon in Simple Features (OGC 06-103r4, 6.1.11) in discrete form.
-use Rattle.std.specs.Prelude.{◌≡◌, ℕ, ◌+◌, Bool, false, List, ◌∷◌, All, AllPairs}
+use Rattle.std.specs.Prelude.{ℕ, ◌+◌, false, List, ◌∷◌, All, AllPairs}
 use Rattle.cell_base.specs.Raster.{Place}
 use Rattle.cell_base.specs.Walk.{IsConnected}
 use Rattle.edge_trace.specs.Edge.{Edge}

@@ -1,5 +1,5 @@
 -- Rings over the corners of cells, with no turning rule: a ring is a closed walk.
-use Rattle.std.specs.Prelude.{◌≡◌, ℕ, zero, suc, ◌+◌, ◌-◌, ◌≤◌, ◌≢◌, ◌⊎◌, nat_lt, List, [], ◌∷◌, ◌++◌, length, take, drop, map, All, AllPairs, Contains, if◌then◌else◌}
+use Rattle.std.specs.Prelude.{ℕ, zero, suc, ◌+◌, ◌-◌, ◌≤◌, ◌≢◌, ◌⊎◌, nat_lt, List, [], ◌∷◌, ◌++◌, length, take, drop, map, All, AllPairs, Contains, if◌then◌else◌}
 use Rattle.std.specs.List.{zip, flat_map}
 use Rattle.cell_base.specs.Raster.{Place}
 use Rattle.edge_trace.specs.Edge.{Corner, Edge, IsUnitEdge, turned}

@@ -2,7 +2,7 @@ use Rattle.std.proofs.Common.{◌≡◌, ◌++◌, ◌∷◌, [], Some, arith}
 use Rattle.std.specs.Prelude.{Contains}
 use Rattle.std.proofs.lemmas.Grind.{common_steps}
 use Rattle.std.proofs.lemmas.List.Elements.{Contains-push}
-use Rattle.cell_base.specs.Raster.{IsInside, value_at}
+use Rattle.cell_base.specs.Raster.{IsInside}
 use Rattle.region_label.specs.Component.{HasValue}
 use Rattle.region_label.proofs.FillLemmas.{aligned_after, fills_first, fills_on, filled, filled_as, free_as}
 use Rattle.region_label.proofs.ScanLemmas.{marked_inside}

@@ -1,7 +1,7 @@
 use Rattle.std.proofs.Common.{◌+◌, ◌*◌, Some, length, not}
 use Rattle.std.specs.Prelude.{nat_eq}
 use denote.Param.{value_of, number}
-use Rattle.cell_base.specs.Raster.{IsInside, value_at}
+use Rattle.cell_base.specs.Raster.{IsInside}
 use Rattle.region_label.specs.Component.{HasValue}
 use Rattle.region_label.specs.Fill.{AreAligned, free_count}
 use Rattle.region_label.proofs.FillLemmas.{IsFilling}

@@ -14,9 +14,9 @@ loop-row-init g c = record {
 pub sizes_of-requires : goal.sizes_of-requires
 sizes_of-requires g c = record {
   known = λ p k is.
-    let found = c.loop-row.invariant.scan.numbered p k is in
-    let count : c.len.result ≡ length c.loop-row.scan.firsts.items = cc (c.loop-row.scan.firsts.ok.0, c.len.ensures) in
-    omega (arith, count, slice_get_within c.loop-row.scan.firsts.items k found.0 found.1);
+      let found = c.loop-row.invariant.scan.numbered p k is in
+      let count : c.len.result ≡ length c.loop-row.scan.firsts.items = cc (c.loop-row.scan.firsts.ok.0, c.len.ensures) in
+      omega (arith, count, slice_get_within c.loop-row.scan.firsts.items k found.0 found.1);
 }
 
 pub returns : goal.returns

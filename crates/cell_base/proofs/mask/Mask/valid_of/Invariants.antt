@@ -1,4 +1,3 @@
-use Rattle.std.proofs.Common.{◌≡◌}
 use Rattle.cell_base.proofs.MaskLemmas.{IsMasking}
 use Rattle.cell_base.proofs.mask.Mask.valid_of.Given as goal
 

@@ -1,5 +1,5 @@
 -- Tests over lists and numbers that compute, and what they tell.
-use Rattle.std.proofs.Common.{◌≡◌, ◌≢◌, ℕ, zero, suc, ◌<◌, ◌⊎◌, inl, inr, Bool, true, false, not, List, [], ◌∷◌, length, get_or, refl, sym, ◌∙◌, ap, arith}
+use Rattle.std.proofs.Common.{◌≡◌, ℕ, zero, suc, ◌<◌, ◌⊎◌, inl, inr, Bool, true, false, not, List, [], ◌∷◌, refl, sym, ◌∙◌, ap, arith}
 use Rattle.std.specs.Prelude.{◌&&◌, ◌||◌, All, AllPairs, Contains}
 use Rattle.std.specs.List.{list_all, list_any}
 use Rattle.std.proofs.lemmas.Bool.{false≢true, cases_eq}
@@ -83,28 +83,32 @@ has same xs x = list_any (λ y. same y x) xs
 pub has_told : {A : Type 0} (same : A → A → Bool) → ((a b : A) → a ≡ b → same a b ≡ true) → (xs : List A) (x : A) → Contains xs x → has same xs x ≡ true
 has_told same told [] x member = absurd (omega (arith, member.1))
 has_told same told (y ∷ ys) x member = elim (contains_cases y ys x member) [
-    inl here ↦ either_left (same y x) (has same ys x) (told y x here)
-  | inr there ↦ either_right (same y x) (has same ys x) (has_told same told ys x there) ]
+  | inl here ↦ either_left (same y x) (has same ys x) (told y x here)
+  | inr there ↦ either_right (same y x) (has same ys x) (has_told same told ys x there)
+]
 
 pub any_by : {A : Type 0} (test : A → Bool) (xs : List A) → list_any test xs ≡ true → (x : A) × Contains xs x × (test x ≡ true)
 any_by test [] is = absurd (false≢true is)
 any_by test (y ∷ ys) is = elim (either (test y) (list_any test ys) is) [
-    inl here ↦ (y, contains_here y ys, here)
+  | inl here ↦ (y, contains_here y ys, here)
   | inr there ↦
       let found = any_by test ys there in
-      (found.0, contains_there y ys found.0 found.1, found.2) ]
+      (found.0, contains_there y ys found.0 found.1, found.2)
+]
 
 pub any_told : {A : Type 0} (test : A → Bool) (xs : List A) (x : A) → Contains xs x → test x ≡ true → list_any test xs ≡ true
 any_told test [] x member holds = absurd (omega (arith, member.1))
 any_told test (y ∷ ys) x member holds = elim (contains_cases y ys x member) [
-    inl here ↦ either_left (test y) (list_any test ys) (ap test here ∙ holds)
-  | inr there ↦ either_right (test y) (list_any test ys) (any_told test ys x there holds) ]
+  | inl here ↦ either_left (test y) (list_any test ys) (ap test here ∙ holds)
+  | inr there ↦ either_right (test y) (list_any test ys) (any_told test ys x there holds)
+]
 
 pub has_tells : {A : Type 0} (same : A → A → Bool) → ((a b : A) → same a b ≡ true → a ≡ b) → (xs : List A) (x : A) → has same xs x ≡ true → Contains xs x
 has_tells same tells [] x is = absurd (false≢true is)
 has_tells same tells (y ∷ ys) x is = elim (either (same y x) (has same ys x) is) [
-    inl here ↦ (0, omega arith, tells y x here)
-  | inr there ↦ contains_there y ys x (has_tells same tells ys x there) ]
+  | inl here ↦ (0, omega arith, tells y x here)
+  | inr there ↦ contains_there y ys x (has_tells same tells ys x there)
+]
 
 pub each_by : {A : Type 0} (test : A → Bool) (xs : List A) (x : A) → list_all test xs ≡ true → Contains xs x → test x ≡ true
 each_by test [] x is member = absurd (omega (arith, member.1))
@@ -122,8 +126,9 @@ below_by test zero k is below = absurd (omega arith)
 below_by test (suc n) k is below =
     let parts = both (test n) (all_below test n) is in
     elim (cases_eq k n) [
-        inl same ↦ ap test same ∙ parts.0
-      | inr other ↦ below_by test n k parts.1 (omega arith) ]
+      | inl same ↦ ap test same ∙ parts.0
+      | inr other ↦ below_by test n k parts.1 (omega arith)
+    ]
 
 -- the test holds of each place of so many rows and columns
 abbrev pub in_box : ℕ → ℕ → (Place → Bool) → Bool
