@@ -33,11 +33,12 @@ pub record HasLinks (regions : RegionTable) (table : EdgeTable) : Type 0 where
   pub apart : (i j n : ℕ) → slice_get table.next i ≡ Some n → slice_get table.next j ≡ Some n → i ≡ j
   pub turns : (k i j m : ℕ) (e f g : Edge) (cell : Place) → slice_get table.next i ≡ Some j → slice_get table.edges i ≡ Some e → slice_get table.edges j ≡ Some f → slice_get table.edges m ≡ Some g → IsEdgeOf regions table k i → IsEdgeOf regions table k m → m ≢ j → g.0 ≡ e.1 → HasOnRight e cell → HasOnRight f cell
 
+-- the boundary edges of a set, each once, enclose exactly its cells
+abbrev pub IsEnclosedByBoundary : (Place → Type 0) → Type 0
+IsEnclosedByBoundary set = (edges : List Edge) → IsListOf (IsBoundaryEdge set) edges → (cell : Place) → set cell ↔ IsEnclosed edges cell
+
 -- what the table of edges promises
 pub record IsEdgeTable (regions : RegionTable) (table : EdgeTable) : Type 0 where
   pub holds : HoldsBoundaries regions table
   pub links : HasLinks regions table
-
--- the boundary edges of a set, each once, enclose exactly its cells
-abbrev pub IsEnclosedByBoundary : (Place → Type 0) → Type 0
-IsEnclosedByBoundary set = (edges : List Edge) → IsListOf (IsBoundaryEdge set) edges → (cell : Place) → set cell ↔ IsEnclosed edges cell
+  pub encloses : (k : ℕ) → IsEnclosedByBoundary (IsInRegion regions k)

@@ -7,3 +7,4 @@ pub mod EdgeTests
 pub mod PolygonRows
 pub mod WrongRows
 pub mod EdgeRows
+pub mod CanonicalLemmas

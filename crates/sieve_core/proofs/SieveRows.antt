@@ -1,12 +1,11 @@
 -- Worked grids: chains and sieved grids. A list of targets tells for each component the one whose value it takes.
-use Rattle.std.proofs.Common.{◌≡◌, ℕ, Bool, true, false, List, [], ◌∷◌, Option, Some, None, refl, sym, ◌∙◌, arith, lit<}
-use Rattle.std.specs.Prelude.{slice_get}
-use Rattle.cell_base.specs.Raster.{Place, Raster, IsRaster, value_at}
+use Rattle.std.proofs.Common.{◌≡◌, ℕ, true, false, List, [], ◌∷◌, Option, Some, None, refl, arith, lit<}
+use Rattle.cell_base.specs.Raster.{Raster}
 use Rattle.region_label.specs.Labelling.{RegionTable}
 use Rattle.sieve_core.specs.Sieve.{IsLargest, IsNextTo, TakesFrom, TakesValues}
 use Rattle.sieve_core.proofs.SieveLemmas.{one_largest}
 use Rattle.sieve_core.proofs.SieveTests.{is_alone_tells, is_largest_tells, is_whole_tells}
-use Rattle.sieve_core.proofs.ValueTests.{AreTargets, has_values, takes_values_by}
+use Rattle.sieve_core.proofs.ValueTests.{takes_values_by}
 use Rattle.sieve_core.proofs.TargetLemmas.{none_where_small, targets_by}
 
 abbrev one_row : {T : Type 0} → ℕ → List T → Raster T

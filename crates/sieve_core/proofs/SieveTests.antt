@@ -1,11 +1,11 @@
 -- Tests of neighbours and chains that compute, and what they tell.
-use Rattle.std.proofs.Common.{◌≡◌, ◌≢◌, ℕ, zero, suc, ◌+◌, ◌*◌, ◌<◌, ◌≤◌, ◌⊎◌, inl, inr, Bool, true, false, not, List, [], ◌∷◌, Option, Some, None, length, get_or, refl, sym, ap, ◌∙◌, arith}
-use Rattle.std.specs.Prelude.{◌==◌, ◌&&◌, ◌||◌, nat_le, nat_lt, All, slice_get}
+use Rattle.std.proofs.Common.{◌≡◌, ℕ, ◌+◌, ◌*◌, ◌<◌, ◌≤◌, inl, inr, Bool, true, false, not, Option, Some, None, length, refl, sym, ap, ◌∙◌, arith}
+use Rattle.std.specs.Prelude.{◌==◌, ◌&&◌, ◌||◌, nat_le, nat_lt}
 use Rattle.std.specs.List.{list_all}
 use Rattle.std.proofs.lemmas.Bool.{eqb-true, eq-eqb, false≢true}
 use Rattle.std.proofs.lemmas.Bool.Decides.{nat_tests}
-use Rattle.cell_base.specs.Raster.{Place, Raster, IsInside, IsRaster, value_at}
-use Rattle.cell_base.specs.Steps.{AreNext, SharesSide, SharesCorner, IsStep}
+use Rattle.cell_base.specs.Raster.{Place, Raster, IsRaster, value_at}
+use Rattle.cell_base.specs.Steps.{AreNext, SharesSide, IsStep}
 use Rattle.cell_base.proofs.PlaceLemmas.{inside_from_value}
 use Rattle.cell_base.proofs.TestLemmas.{all_by, both, both_back, box_by, either, either_left, either_right, implied, implies, in_box, not_true}
 use Rattle.region_label.specs.Labelling.{RegionTable, IsInRegion}
@@ -41,12 +41,13 @@ is_step true a b = side_step a b || corner_step a b
 
 side_tells : (a b : Place) → side_step a b ≡ true → SharesSide a b
 side_tells a b is = elim (either (level_step a b) (upright_step a b) is) [
-    inl level ↦
+  | inl level ↦
       let parts = both (a.0 == b.0) (are_next a.1 b.1) level in
       inl (eqb-true a.0 b.0 parts.0, next_tells a.1 b.1 parts.1)
   | inr upright ↦
       let parts = both (a.1 == b.1) (are_next a.0 b.0) upright in
-      inr (eqb-true a.1 b.1 parts.0, next_tells a.0 b.0 parts.1) ]
+      inr (eqb-true a.1 b.1 parts.0, next_tells a.0 b.0 parts.1)
+]
 
 side_told : (a b : Place) → SharesSide a b → side_step a b ≡ true
 side_told a b (inl level) = either_left (level_step a b) (upright_step a b) (both_back (a.0 == b.0) (are_next a.1 b.1) (eq-eqb a.0 b.0 level.0) (next_told a.1 b.1 level.1))
@@ -55,10 +56,11 @@ side_told a b (inr upright) = either_right (level_step a b) (upright_step a b) (
 step_tells : (eight : Bool) (a b : Place) → is_step eight a b ≡ true → IsStep eight a b
 step_tells false a b is = side_tells a b is
 step_tells true a b is = elim (either (side_step a b) (corner_step a b) is) [
-    inl side ↦ inl (side_tells a b side)
+  | inl side ↦ inl (side_tells a b side)
   | inr corner ↦
       let parts = both (are_next a.0 b.0) (are_next a.1 b.1) corner in
-      inr (next_tells a.0 b.0 parts.0, next_tells a.1 b.1 parts.1) ]
+      inr (next_tells a.0 b.0 parts.0, next_tells a.1 b.1 parts.1)
+]
 
 step_told : (eight : Bool) (a b : Place) → IsStep eight a b → is_step eight a b ≡ true
 step_told false a b step = side_told a b step
@@ -119,8 +121,9 @@ le_tells m n is = grind (arith, nat_tests)
 allowed : (eight : Bool) (regions : RegionTable) (k m j : ℕ) → IsRaster regions.numbers → near_all eight regions k (allows regions k m) ≡ true → IsNextTo eight regions k j → (nat_le (size_of regions j) (size_of regions m) && implies (size_of regions j == size_of regions m) (nat_le m j)) ≡ true
 allowed eight regions k m j whole all near =
     elim (either (k == j) (nat_le (size_of regions j) (size_of regions m) && implies (size_of regions j == size_of regions m) (nat_le m j)) (near_tells eight regions k j (allows regions k m) whole all near)) [
-        inl same ↦ absurd (near.0 (eqb-true k j same))
-      | inr fits ↦ fits ]
+      | inl same ↦ absurd (near.0 (eqb-true k j same))
+      | inr fits ↦ fits
+    ]
 
 pub is_largest_tells : (eight : Bool) (regions : RegionTable) (k m : ℕ) (p q : Place) → IsRaster regions.numbers → is_largest eight regions k m p q ≡ true → IsLargest eight regions k m
 is_largest_tells eight regions k m p q whole is =
@@ -131,11 +134,11 @@ is_largest_tells eight regions k m p q whole is =
     record {
       next_to = ((λ same. not_true (k == m) two.0 (eq-eqb k m same)), p, q, in_tells regions k p four.0, in_tells regions m q four.1, step_tells eight p q three.1);
       largest = λ j near.
-        let fits = both (nat_le (size_of regions j) (size_of regions m)) (implies (size_of regions j == size_of regions m) (nat_le m j)) (allowed eight regions k m j whole one.1 near) in
-        le_tells (size_of regions j) (size_of regions m) fits.0;
+          let fits = both (nat_le (size_of regions j) (size_of regions m)) (implies (size_of regions j == size_of regions m) (nat_le m j)) (allowed eight regions k m j whole one.1 near) in
+          le_tells (size_of regions j) (size_of regions m) fits.0;
       lowest = λ j near same.
-        let fits = both (nat_le (size_of regions j) (size_of regions m)) (implies (size_of regions j == size_of regions m) (nat_le m j)) (allowed eight regions k m j whole one.1 near) in
-        le_tells m j (implied (size_of regions j == size_of regions m) (nat_le m j) fits.1 (eq-eqb (size_of regions j) (size_of regions m) same));
+          let fits = both (nat_le (size_of regions j) (size_of regions m)) (implies (size_of regions j == size_of regions m) (nat_le m j)) (allowed eight regions k m j whole one.1 near) in
+          le_tells m j (implied (size_of regions j == size_of regions m) (nat_le m j) fits.1 (eq-eqb (size_of regions j) (size_of regions m) same));
     }
 
 -- no other component is near

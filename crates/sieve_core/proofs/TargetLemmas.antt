@@ -1,11 +1,11 @@
 -- Lists of targets, component by component.
-use Rattle.std.proofs.Common.{◌≡◌, ℕ, zero, suc, ◌+◌, ◌<◌, ◌≤◌, Bool, true, List, [], ◌∷◌, Option, Some, None, refl, sym, ap, ◌∙◌, subst, arith}
+use Rattle.std.proofs.Common.{◌≡◌, ℕ, zero, suc, ◌+◌, ◌<◌, Bool, true, List, [], ◌∷◌, Option, Some, None, subst, arith}
 use Rattle.std.specs.Prelude.{nat_lt, slice_get, slice_index}
 use Rattle.std.specs.List.{list_all}
 use Rattle.std.proofs.lemmas.Bool.Decides.{nat_tests}
 use Rattle.cell_base.proofs.TestLemmas.{both}
 use Rattle.region_label.specs.Labelling.{RegionTable}
-use Rattle.sieve_core.specs.Sieve.{TakesFrom, size_of}
+use Rattle.sieve_core.specs.Sieve.{TakesFrom}
 use Rattle.sieve_core.proofs.SieveLemmas.{takes_from_none}
 use Rattle.sieve_core.proofs.ValueTests.{AreTargets}
 
@@ -47,11 +47,11 @@ right_none eight regions st k (Some n ∷ ts) right (suc i) at m takes =
 pub targets_by : (eight : Bool) (regions : RegionTable) (st : ℕ) (ts : List (Option ℕ)) → AreRight eight regions st 0 ts → AreTargets eight regions st ts
 targets_by eight regions st ts right = record {
   taken = λ k m at.
-    let here : 0 + k ≡ k = omega arith in
-    subst (λ (j : ℕ). TakesFrom eight regions st j m) here (right_taken eight regions st 0 ts right k m at);
+      let here : 0 + k ≡ k = omega arith in
+      subst (λ (j : ℕ). TakesFrom eight regions st j m) here (right_taken eight regions st 0 ts right k m at);
   none = λ k at m takes.
-    let here : k ≡ 0 + k = omega arith in
-    right_none eight regions st 0 ts right k at m (subst (λ (j : ℕ). TakesFrom eight regions st j m) here takes);
+      let here : k ≡ 0 + k = omega arith in
+      right_none eight regions st 0 ts right k at m (subst (λ (j : ℕ). TakesFrom eight regions st j m) here takes);
 }
 
 lt_tells : (m n : ℕ) → nat_lt m n ≡ true → m < n

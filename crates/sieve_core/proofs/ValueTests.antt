@@ -1,5 +1,5 @@
 -- A test of a whole sieved grid that computes, and what it tells.
-use Rattle.std.proofs.Common.{◌≡◌, ℕ, ◌<◌, ◌⊎◌, inl, inr, Bool, true, false, List, Option, Some, None, refl, sym, ap, ◌∙◌, subst, arith}
+use Rattle.std.proofs.Common.{◌≡◌, ℕ, ◌⊎◌, inl, inr, Bool, true, false, List, Option, Some, None, refl, sym, ap, ◌∙◌, subst, arith}
 use Rattle.std.specs.Prelude.{◌==◌, slice_get}
 use Rattle.std.proofs.lemmas.Bool.{eqb-true, cases_lt, false≢true}
 use Rattle.cell_base.specs.Raster.{Place, Raster, IsInside, IsRaster, value_at}
@@ -74,8 +74,9 @@ none_of (Some v) none = absurd (none v refl)
 
 inside_or_not : {T : Type 0} (grid : Raster T) (p : Place) → IsInside grid p ⊎ ¬ IsInside grid p
 inside_or_not grid p = elim (cases_lt p.0 grid.nrows) [
-    inl in_row ↦ elim (cases_lt p.1 grid.ncols) [ inl in_col ↦ inl (in_row, in_col) | inr past ↦ inr (λ inside. omega (arith, inside.1, past)) ]
-  | inr past ↦ inr (λ inside. omega (arith, inside.0, past)) ]
+  | inl in_row ↦ elim (cases_lt p.1 grid.ncols) [ inl in_col ↦ inl (in_row, in_col) | inr past ↦ inr (λ inside. omega (arith, inside.1, past)) ]
+  | inr past ↦ inr (λ inside. omega (arith, inside.0, past))
+]
 
 -- outside there is no value
 outside_none : (grid : Raster ℕ) (p : Place) → IsRaster grid → ¬ IsInside grid p → value_at grid p ≡ None
@@ -86,13 +87,14 @@ takes_values_by eight regions st targets old new whole whole_old whole_new cols 
     let test : Place → Bool = λ p. from_number old regions targets (value_at old p) (value_at new p) (value_at regions.numbers p) in
     let at : (p : Place) → IsInside regions.numbers p → test p ≡ true = λ p inside. box_by regions.numbers.nrows regions.numbers.ncols test p is inside.0 inside.1 in
     let target : (p : Place) (k : ℕ) → IsInRegion regions k p → from_target old regions (value_at old p) (value_at new p) (slice_get targets k) ≡ true =
-        λ p k in_k. ap (from_number old regions targets (value_at old p) (value_at new p)) (sym in_k) ∙ at p (inside_from_value regions.numbers p (Some k) whole in_k) in
+    λ p k in_k. ap (from_number old regions targets (value_at old p) (value_at new p)) (sym in_k) ∙ at p (inside_from_value regions.numbers p (Some k) whole in_k) in
     record {
       ncols = new_cols;
       nrows = new_rows;
       taken = λ p k m in_k takes. target_taken eight regions st targets old (value_at old p) (value_at new p) k m (slice_get targets k) right takes refl (target p k in_k);
       stays = λ p k in_k none. target_stays eight regions st targets old (value_at old p) (value_at new p) k (slice_get targets k) right none refl (target p k in_k);
       not_valid = λ p none. elim (inside_or_not regions.numbers p) [
-          inl inside ↦ number_stays regions targets old (value_at old p) (value_at new p) p (value_at regions.numbers p) none (at p inside)
-        | inr out ↦ outside_none new p whole_new (λ inside. out (omega (arith, inside.0, rows, new_rows), omega (arith, inside.1, cols, new_cols))) ∙ sym (outside_none old p whole_old (λ inside. out (omega (arith, inside.0, rows), omega (arith, inside.1, cols)))) ];
+        | inl inside ↦ number_stays regions targets old (value_at old p) (value_at new p) p (value_at regions.numbers p) none (at p inside)
+        | inr out ↦ outside_none new p whole_new (λ inside. out (omega (arith, inside.0, rows, new_rows), omega (arith, inside.1, cols, new_cols))) ∙ sym (outside_none old p whole_old (λ inside. out (omega (arith, inside.0, rows), omega (arith, inside.1, cols))))
+      ];
     }

@@ -1,9 +1,8 @@
 -- The sieved grid: small components take the value of a larger neighbour (manual of gdal_sieve). Ties and chains are this project's own.
-use Rattle.std.specs.Prelude.{◌≡◌, ◌≢◌, ℕ, ◌<◌, ◌≤◌, ◌⊎◌, Bool, List, Option, Some, length, slice_get, slice_index}
+use Rattle.std.specs.Prelude.{◌≡◌, ◌≢◌, ℕ, ◌<◌, ◌≤◌, Bool, List, Option, Some, length, slice_get, slice_index}
 use Rattle.cell_base.specs.Raster.{Place, Raster, value_at}
 use Rattle.cell_base.specs.Steps.{IsStep}
 use Rattle.cell_base.specs.Walk.{IsWalk}
-use Rattle.cell_base.specs.Valid.{IsMarked}
 use Rattle.region_label.specs.Labelling.{RegionTable, IsInRegion, IsLabelling}
 
 -- neighbours: other components, with a cell that is one step from a cell of this one
