@@ -6,3 +6,4 @@ pub mod ScanLemmas
 pub mod CountLemmas
 pub mod EndLemmas
 pub mod ComponentRows
+pub mod LabellingLemmas
