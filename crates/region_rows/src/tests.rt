@@ -181,3 +181,29 @@ fn runs_in_a_row(rt: HostRuntime) -> Result<(), Fail> {
     );
     Ok(())
 }
+
+#[test]
+fn short_rows(rt: HostRuntime) -> Result<(), Fail> {
+    assert!(rt; finds::<false>(rt.alloc(), (2, 1), &[1, 2], &[0, 1], &[0, 1], &[1, 1])?);
+    assert!(rt;
+        finds::<false>(
+            rt.alloc(),
+            (4, 1),
+            &[1, 2, 3, 3],
+            &[0, 1, 2, 2],
+            &[0, 1, 2],
+            &[1, 1, 2]
+        )?
+    );
+    assert!(rt;
+        finds::<true>(
+            rt.alloc(),
+            (3, 1),
+            &[1, -9999, 2],
+            &[0, 99, 1],
+            &[0, 2],
+            &[1, 1]
+        )?
+    );
+    Ok(())
+}

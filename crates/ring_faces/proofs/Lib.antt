@@ -8,3 +8,5 @@ pub mod PolygonRows
 pub mod WrongRows
 pub mod EdgeRows
 pub mod CanonicalLemmas
+pub mod RingLemmas
+pub mod ParityLemmas
