@@ -12,7 +12,7 @@ use Rattle.ring_faces.specs.LatticePolygon.{Polygon, rings_of, IsCovered, Shares
 use Rattle.ring_faces.specs.EdgePolygon.{all_edges}
 use Rattle.ring_faces.specs.CanonicalPolygon.{IsLevel, IsUpright, IsTurn, ListsTurns, StartsLeast, StartsBefore, IsCanonicalPolygon}
 use Rattle.cell_base.proofs.TestLemmas.{all_by, all_pairs, any_by, both, each_by, either, has, has_tells, not_true, pairs_by}
-use Rattle.ring_faces.proofs.PlaceTests.{same_edge, same_edge_tells}
+use Rattle.edge_trace.proofs.PlaceTests.{same_edge, same_edge_tells}
 use Rattle.ring_faces.proofs.PolygonTests.{is_covered, is_covered_tells, is_hole_in, is_hole_in_tells, is_simple, is_simple_tells, is_spanned, is_spanned_tells, shares_no_cell, shares_no_cell_tells, shares_no_edge, shares_no_edge_tells}
 use Rattle.ring_faces.proofs.ValidTests.{are_holes_spanned, covers_list, covers_list_tells, do_not_cross, do_not_cross_tells, holes_spanned_tells}
 

@@ -7,7 +7,7 @@ use Rattle.edge_trace.specs.Crossing.{crossing_count}
 use Rattle.ring_faces.specs.LatticePolygon.{Polygon}
 use Rattle.ring_faces.specs.EdgePolygon.{all_edges, IsEdgePolygon}
 use Rattle.cell_base.proofs.TestLemmas.{has, implies, in_box}
-use Rattle.ring_faces.proofs.PlaceTests.{same_place}
+use Rattle.edge_trace.proofs.PlaceTests.{same_place}
 use Rattle.ring_faces.proofs.EdgeTests.{is_edge_polygon_tells}
 use Rattle.ring_faces.proofs.PolygonRows.{corner_ones, frame, frame_polygon, notched, notched_polygon, plain, two_holed, two_holed_polygon}
 

@@ -8,7 +8,7 @@ use Rattle.ring_faces.specs.Ring.{Ring, edges_of, IsRing}
 use Rattle.ring_faces.specs.LatticePolygon.{Polygon, rings_of}
 use Rattle.ring_faces.specs.EdgePolygon.{all_edges, IsEdgePolygon}
 use Rattle.cell_base.proofs.TestLemmas.{all_by, all_pairs, any_by, any_told, both, both_back, each_by, has, has_tells, has_told, implied, implies, not_true, pairs_by, true_of_not}
-use Rattle.ring_faces.proofs.PlaceTests.{is_unit, is_unit_tells, same_edge, same_edge_tells, same_edge_told}
+use Rattle.edge_trace.proofs.PlaceTests.{is_unit, is_unit_tells, same_edge, same_edge_tells, same_edge_told}
 use Rattle.ring_faces.proofs.PolygonTests.{le_tells}
 
 -- whether a cell of the list is on the left of the edge

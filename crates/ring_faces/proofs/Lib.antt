@@ -1,4 +1,3 @@
-pub mod PlaceTests
 pub mod BoxLemmas
 pub mod PolygonTests
 pub mod ValidTests
@@ -9,4 +8,4 @@ pub mod WrongRows
 pub mod EdgeRows
 pub mod CanonicalLemmas
 pub mod RingLemmas
-pub mod ParityLemmas
+pub mod WalkParityLemmas

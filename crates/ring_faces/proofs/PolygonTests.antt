@@ -12,7 +12,7 @@ use Rattle.edge_trace.specs.Crossing.{crossing_count}
 use Rattle.ring_faces.specs.Ring.{Ring, edges_of, corners_of, RunsAlong, IsInsideRing, IsSimpleRing}
 use Rattle.ring_faces.specs.LatticePolygon.{Polygon, IsCovered, SharesNoEdge, SharesNoCell}
 use Rattle.cell_base.proofs.TestLemmas.{all_by, all_back, all_pairs, any_by, both, both_back, box_by, contains_cases, each_by, either_left, either_right, has, has_told, implied, implies, in_box, not_true, pairs_by, true_of_not}
-use Rattle.ring_faces.proofs.PlaceTests.{is_unit, is_unit_tells, same_edge, same_edge_told, same_place, same_place_told, shares_side, shares_side_tells}
+use Rattle.edge_trace.proofs.PlaceTests.{is_unit, is_unit_tells, same_edge, same_edge_told, same_place, same_place_told, shares_side, shares_side_tells}
 use Rattle.ring_faces.proofs.BoxLemmas.{enclosed_within, is_boxed}
 
 -- simple rings

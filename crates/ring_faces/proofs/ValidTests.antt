@@ -11,7 +11,7 @@ use Rattle.edge_trace.specs.Edge.{Edge}
 use Rattle.ring_faces.specs.Ring.{Ring, edges_of, RunsAlong, IsInsideRing}
 use Rattle.ring_faces.specs.LatticePolygon.{Polygon, IsCovered, PassesUpright, PassesLevel, DoNotCross}
 use Rattle.cell_base.proofs.TestLemmas.{both, both_back, box_by, each_by, has, has_tells, implied, implies, in_box, not_true}
-use Rattle.ring_faces.proofs.PlaceTests.{same_place, same_place_tells}
+use Rattle.edge_trace.proofs.PlaceTests.{same_place, same_place_tells}
 use Rattle.ring_faces.proofs.BoxLemmas.{is_within}
 use Rattle.ring_faces.proofs.PolygonTests.{inside_by, is_covered, is_covered_tells, is_covered_told, is_inside, is_inside_tells, is_inside_told, is_ring_boxed, is_spanned, is_spanned_tells, runs_along, runs_told}
 

@@ -2,7 +2,8 @@
 use Rattle.std.proofs.Common.{◌≡◌, ℕ, zero, suc, ◌+◌, inl, inr, false, List, [], ◌∷◌, refl, ap, subst, arith, lit<}
 use Rattle.std.proofs.lemmas.Bool.{false≢true}
 use Rattle.edge_trace.specs.Edge.{Edge, HasOnLeft}
-use Rattle.ring_faces.proofs.PlaceTests.{same_place, same_place_told}
+use Rattle.edge_trace.proofs.BoundaryLemmas.{left_of_down, place_is}
+use Rattle.edge_trace.proofs.PlaceTests.{same_place, same_place_told}
 use Rattle.std.specs.Prelude.{Contains}
 use Rattle.cell_base.specs.Raster.{Place}
 use Rattle.cell_base.specs.Steps.{SharesSide}
@@ -46,23 +47,12 @@ holes_exchanged canonical = elim (canonical.order 0 1 [] (lit< tt) (lit< tt) (2,
 late_start : ¬ IsCanonicalPolygon (Contains frame) (record frame_polygon { shell = (3, 0) ∷ (3, 3) ∷ (0, 3) ∷ (0, 0) ∷ [] })
 late_start canonical = elim (canonical.starts 0 [] (lit< tt) 2 (0, 0) (lit< tt)) [ inl above ↦ omega arith | inr level ↦ omega (arith, level.0) ]
 
--- the cell on the left of an edge that leads down is the one right below its start
-left_of_down : (r c : ℕ) (cell : Place) → HasOnLeft ((r, c), (r + 1, c)) cell → cell ≡ (r, c)
-left_of_down r c cell (zero, within, is) =
-    let row : cell.0 ≡ r = ap (λ (e : Edge). e.0.0) is in
-    let col : cell.1 ≡ c = ap (λ (e : Edge). e.0.1) is in
-    let same : (cell.0, cell.1) ≡ (r, c) = cc in
-    same
-left_of_down r c cell (suc zero, within, is) = absurd (omega (arith, ap (λ (e : Edge). e.0.0) is, ap (λ (e : Edge). e.1.0) is))
-left_of_down r c cell (suc (suc zero), within, is) = absurd (omega (arith, ap (λ (e : Edge). e.0.0) is, ap (λ (e : Edge). e.1.0) is))
-left_of_down r c cell (suc (suc (suc zero)), within, is) = absurd (omega (arith, ap (λ (e : Edge). e.0.0) is, ap (λ (e : Edge). e.1.0) is))
-left_of_down r c cell (suc (suc (suc (suc k))), within, is) = absurd (omega arith)
-
 -- a hole that runs counterclockwise
 hole_turned : ¬ IsCanonicalPolygon (Contains frame) (record frame_polygon { holes = ((1, 1) ∷ (2, 1) ∷ (2, 2) ∷ (1, 2) ∷ []) ∷ [] })
 hole_turned canonical =
     let found = canonical.left ((1, 1), (2, 1)) (12, lit< tt, refl) in
-    let here : Contains frame (1, 1) = subst (λ (p : Place). Contains frame p) (left_of_down 1 1 found.0 found.1) found.2 in
+    let at = left_of_down 1 1 found.0 found.1 in
+    let here : Contains frame (1, 1) = subst (λ (p : Place). Contains frame p) (place_is found.0 1 1 at.0 at.1) found.2 in
     false≢true (has_told same_place same_place_told frame (1, 1) here)
 
 -- a corner where the ring doesn't turn
