@@ -1,1 +1,7 @@
 pub mod RasterLemmas
+pub mod StepsLemmas
+pub mod WalkLemmas
+pub mod PlaceLemmas
+pub mod OrderLemmas
+pub mod MaskLemmas
+pub mod TestLemmas

@@ -1,2 +1,6 @@
 pub mod Raster
 pub mod Cells
+pub mod Steps
+pub mod Order
+pub mod Walk
+pub mod Valid

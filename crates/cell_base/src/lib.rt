@@ -3,6 +3,10 @@
 
 mod cell;
 mod grid;
+mod mask;
+mod steps;
 
 pub use cell::Cell;
 pub use grid::Grid;
+pub use mask::Mask;
+pub use steps::Steps;

@@ -5,5 +5,8 @@
 
 #[cfg(test)]
 mod outside;
+
+#[cfg(test)]
+mod regions;
 #[cfg(test)]
 mod runs;

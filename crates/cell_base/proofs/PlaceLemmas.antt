@@ -1,0 +1,33 @@
+use Rattle.std.proofs.Common.{◌≡◌, ℕ, zero, suc, ◌*◌, inl, inr, List, [], Some, length, length-take, length-drop, take, drop, get_or, ap, sym, ◌∙◌, arith}
+use Rattle.std.specs.Prelude.{All, slice_get, unwrap_or}
+use Rattle.std.proofs.lemmas.Bool.{cases_lt}
+use Rattle.std.proofs.lemmas.List.{get_or_past}
+use Rattle.std.proofs.lemmas.List.Elements.{All-take, All-drop}
+use Rattle.std.proofs.lemmas.Option.{slice_get_within, unwrap_or-slice_get, get_or_from_slice_get}
+use Rattle.std.proofs.lemmas.List.Elements.{All-nil, All-cons}
+use Rattle.cell_base.specs.Raster.{Place, Raster, IsInside, IsRaster, raster_of, rows_of, value_at}
+use Rattle.cell_base.specs.Cells.{IsWhole}
+use Rattle.cell_base.proofs.RasterLemmas.{length-rows_of}
+
+no_value : {T : Type 0} (place : ℕ) (v : T) → slice_get {X = T} [] place ≡ Some v → ⊥
+no_value place v is = cc
+
+-- a place that has a value is inside
+pub inside_from_value : {T : Type 0} (grid : Raster T) (p : Place) (v : T) → IsRaster grid → value_at grid p ≡ Some v → IsInside grid p
+inside_from_value grid p v whole is =
+    let at : slice_get (get_or grid.rows p.0 []) p.1 ≡ Some v = ap (λ row. slice_get row p.1) (sym (unwrap_or-slice_get grid.rows p.0 [])) ∙ is in
+    elim (cases_lt p.0 (length grid.rows)) [
+      | inl within ↦
+          let in_row = slice_get_within (get_or grid.rows p.0 []) p.1 v at in
+          (omega (arith, whole.height), omega (arith, in_row, whole.width p.0 [] within))
+      | inr past ↦ absurd (no_value p.1 v (ap (λ row. slice_get row p.1) (sym (get_or_past grid.rows p.0 [] past)) ∙ at))
+    ]
+
+-- whatever holds of all cells of a list holds of the values of the grid that they make
+pub rows_hold : {T : Type 0} (P : T → Type 0) (ncols nrows : ℕ) (cells : List T) (row col : ℕ) (v : T) → All P cells → slice_get (unwrap_or (slice_get (rows_of ncols nrows cells) row) []) col ≡ Some v → P v
+rows_hold P ncols zero cells row col v all is = absurd (no_value col v is)
+rows_hold P ncols (suc nrows) cells zero col v all is =
+    let within = slice_get_within (take ncols cells) col v is in
+    let value : get_or (take ncols cells) col v ≡ v = get_or_from_slice_get (take ncols cells) col v v is in
+    rw value at (All-take P ncols cells all col v within)
+rows_hold P ncols (suc nrows) cells (suc row) col v all is = rows_hold P ncols nrows (drop ncols cells) row col v (All-drop P ncols cells all) is

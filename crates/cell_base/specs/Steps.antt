@@ -1,0 +1,44 @@
+-- The cells round a cell, and the steps of the two connectivities.
+use Rattle.std.specs.Prelude.{◌≡◌, ℕ, ◌+◌, ◌⊎◌, Bool, true, false, List, [], ◌∷◌, IsSomeAnd, slice_get, if◌then◌else◌}
+use Rattle.cell_base.specs.Raster.{Place}
+
+-- one of the two numbers is one more than the other
+abbrev pub AreNext : ℕ → ℕ → Type 0
+AreNext m n = (m ≡ n + 1) ⊎ (n ≡ m + 1)
+
+-- the two cells share a side: one row and neighbouring columns, or one column and neighbouring rows
+abbrev pub SharesSide : Place → Place → Type 0
+SharesSide a b = ((a.0 ≡ b.0) × AreNext a.1 b.1) ⊎ ((a.1 ≡ b.1) × AreNext a.0 b.0)
+
+-- the two cells share a corner and no side
+abbrev pub SharesCorner : Place → Place → Type 0
+SharesCorner a b = AreNext a.0 b.0 × AreNext a.1 b.1
+
+-- one step of the connectivity: to a cell that shares a side, or under eight a side or a corner
+abbrev pub IsStep : Bool → Place → Place → Type 0
+IsStep false a b = SharesSide a b
+IsStep true a b = SharesSide a b ⊎ SharesCorner a b
+
+-- the number of steps from a cell, those that leave the grid included
+abbrev pub step_count : Bool → ℕ
+step_count eight = if eight then 8 else 4
+
+-- how a number changes
+pub data Change : Type 0 where
+  less : Change
+  same : Change
+  more : Change
+
+-- the second number is one less than the first, the same, or one more
+abbrev pub Changes : Change → ℕ → ℕ → Type 0
+Changes less m n = m ≡ n + 1
+Changes same m n = n ≡ m
+Changes more m n = n ≡ m + 1
+
+-- the changes of row and column, in the order up, left, right, down, up-left, up-right, down-left, down-right
+abbrev pub ways : List (Change × Change)
+ways = (less, same) ∷ (same, less) ∷ (same, more) ∷ (more, same) ∷ (less, less) ∷ (less, more) ∷ (more, less) ∷ (more, more) ∷ []
+
+-- the second cell is the neighbour of the first in the way of this number
+abbrev pub IsNeighbour : ℕ → Place → Place → Type 0
+IsNeighbour k a b = IsSomeAnd (slice_get ways k) (λ way. Changes way.0 a.0 b.0 × Changes way.1 a.1 b.1)

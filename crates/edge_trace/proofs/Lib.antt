@@ -1,0 +1,3 @@
+pub mod PlaceTests
+pub mod ParityLemmas
+pub mod BoundaryLemmas

@@ -1,0 +1,3 @@
+pub mod Edge
+pub mod Crossing
+pub mod EdgeTable

@@ -1,0 +1,2 @@
+//! The directed edges between a component and the rest of a grid.
+#![tactic(auto)]

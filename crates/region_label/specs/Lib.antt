@@ -1,0 +1,5 @@
+pub mod Count
+pub mod Component
+pub mod Labelling
+pub mod Fill
+pub mod Sizes

@@ -1,0 +1,42 @@
+// Counts the cells of each component.
+ghost use Rattle.std.specs.Prelude.{◌≡◌, ◌+◌, ◌<◌, ℕ, Some, IfOk, length};
+ghost use Rattle.cell_base.specs.Raster.{IsRaster, Place, value_at};
+ghost use Rattle.region_label.specs.Sizes.{AreCounted};
+
+use cell_base::Grid;
+use std::alloc::{AllocError, Global};
+
+/// Counts a cell for the component that it is in.
+fn count_cell(numbers: &Grid<Option<u32>>, sizes: &mut Vec<u32>, row: u32, col: u32)
+    requires whole { IsRaster numbers.now }
+    requires row { row < numbers.now.nrows }
+    requires col { col < numbers.now.ncols }
+    requires known { (p : Place) (k : ℕ) → value_at numbers.now p ≡ Some (Some k) → k < length sizes.old.items }
+    requires counted { AreCounted numbers.now (row, col) sizes.old.items }
+    ensures len { length sizes.new.items ≡ length sizes.old.items }
+    ensures counted { AreCounted numbers.now (row, col + 1) sizes.new.items }
+{
+    let Some(k) = numbers.get(row, col) else {
+        return;
+    };
+    sizes[k as usize] += 1;
+}
+
+/// The number of cells of each component, by number.
+pub fn sizes_of(
+    alloc: Global,
+    numbers: &Grid<Option<u32>>,
+    count: usize,
+) -> Result<Vec<u32>, AllocError>
+    requires known { (p : Place) (k : ℕ) → value_at numbers.now p ≡ Some (Some k) → k < count }
+    ensures len { IfOk result (λ sizes. length sizes.items ≡ count) }
+    ensures counted { IfOk result (λ sizes. AreCounted numbers.now (numbers.now.nrows, 0) sizes.items) }
+{
+    let mut sizes = vec![in alloc; 0u32; count]?;
+    'rows: for row in 0..numbers.nrows() {
+        'cols: for col in 0..numbers.ncols() {
+            count_cell(numbers, &mut sizes, row, col);
+        }
+    }
+    Ok(sizes)
+}

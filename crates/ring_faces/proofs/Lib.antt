@@ -1,0 +1,11 @@
+pub mod BoxLemmas
+pub mod PolygonTests
+pub mod ValidTests
+pub mod CanonicalTests
+pub mod EdgeTests
+pub mod PolygonRows
+pub mod WrongRows
+pub mod EdgeRows
+pub mod CanonicalLemmas
+pub mod RingLemmas
+pub mod WalkParityLemmas

@@ -1,0 +1,4 @@
+pub mod Ring
+pub mod LatticePolygon
+pub mod EdgePolygon
+pub mod CanonicalPolygon

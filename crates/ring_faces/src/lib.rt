@@ -1,0 +1,2 @@
+//! The polygons of components.
+#![tactic(auto)]

@@ -1,0 +1,5 @@
+pub mod SieveLemmas
+pub mod SieveTests
+pub mod ValueTests
+pub mod TargetLemmas
+pub mod SieveRows

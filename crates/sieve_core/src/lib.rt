@@ -1,0 +1,2 @@
+//! The sieve.
+#![tactic(auto)]
