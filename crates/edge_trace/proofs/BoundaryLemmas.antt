@@ -1,14 +1,14 @@
 -- The boundary edges of a set enclose exactly its cells.
-use Rattle.std.proofs.Common.{◌≡◌, ◌≢◌, ℕ, zero, suc, ◌+◌, ◌%◌, ◌<◌, ◌≤◌, ◌⊎◌, ◌↔◌, inl, inr, Bool, true, false, not, List, [], ◌∷◌, Option, Some, None, refl, sym, ap, ◌∙◌, subst, arith, lit<}
-use Rattle.std.specs.Prelude.{◌==◌, ◌&&◌, ◌||◌, nat_le, AllPairs, Contains}
+use Rattle.std.proofs.Common.{◌≡◌, ◌≢◌, ℕ, zero, suc, ◌+◌, ◌%◌, ◌↔◌, Bool, true, false, not, List, [], ◌∷◌, Option, Some, None, refl, sym, ap, ◌∙◌, subst, arith, lit<}
+use Rattle.std.specs.Prelude.{◌==◌, ◌&&◌, ◌||◌, AllPairs, Contains}
 use Rattle.std.proofs.lemmas.Bool.{eqb-true, eq-eqb, false≢true}
 use Rattle.std.proofs.lemmas.Bool.Decides.{nat_tests}
 use Rattle.cell_base.specs.Raster.{Place, value_at}
-use Rattle.cell_base.proofs.TestLemmas.{both, both_back, contains_here, contains_there, has, has_tells, has_told, not_true, true_of_not}
+use Rattle.cell_base.proofs.TestLemmas.{both, both_back, has, has_tells, has_told, not_true, true_of_not}
 use Rattle.region_label.specs.Count.{IsListOf}
 use Rattle.region_label.specs.Labelling.{RegionTable, IsInRegion}
-use Rattle.edge_trace.specs.Edge.{Edge, HasOnLeft, HasOnRight, IsBoundaryEdge, turned}
-use Rattle.edge_trace.specs.Crossing.{is_crossed, crossing_count, IsEnclosed}
+use Rattle.edge_trace.specs.Edge.{Edge, HasOnLeft, IsBoundaryEdge}
+use Rattle.edge_trace.specs.Crossing.{is_crossed, crossing_count}
 use Rattle.edge_trace.specs.EdgeTable.{IsEnclosedByBoundary}
 use Rattle.edge_trace.proofs.PlaceTests.{same_edge, same_edge_tells, same_edge_told}
 use Rattle.edge_trace.proofs.ParityLemmas.{change_beside, differ, is_odd, is_upright_at, odd_differ, odd_is_count}
@@ -77,8 +77,8 @@ odd_is_member : (x : Edge) (es : List Edge) → AllPairs (λ a b. a ≢ b) es �
 odd_is_member x [] once = refl
 odd_is_member x (e ∷ es) once =
     member_case (same_edge e x) (has same_edge es x) (is_odd (λ f. same_edge f x) es) (λ same. false_of_not (has same_edge es x) (λ there.
-      let is : e ≡ x = same_edge_tells e x same in
-      not_twice e es once (subst (λ (f : Edge). Contains es f) (sym is) (has_tells same_edge same_edge_tells es x there)))) (odd_without x es) (odd_is_member x es (once_rest e es once))
+    let is : e ≡ x = same_edge_tells e x same in
+    not_twice e es once (subst (λ (f : Edge). Contains es f) (sym is) (has_tells same_edge same_edge_tells es x there)))) (odd_without x es) (odd_is_member x es (once_rest e es once))
 
 -- an upright edge between two cells leads down or up
 split_upright : (r j : ℕ) (e : Edge) → is_upright_at r j e ≡ differ (same_edge e (down r j)) (same_edge e (up r j))
@@ -111,8 +111,8 @@ is_down_told set test tests r j boundary =
     let at = left_of_down r j boundary.left.0 boundary.left.1 in
     let here : test (r, j) ≡ true = ap test (sym (place_is boundary.left.0 r j at.0 at.1)) ∙ (tests boundary.left.0).1 boundary.left.2 in
     both_back (test (r, j)) (not (left_test test r j)) here (true_of_not (left_test test r j) (λ left.
-      let found = left_set set test tests r j left in
-      boundary.right found.0 found.1 found.2))
+    let found = left_set set test tests r j left in
+    boundary.right found.0 found.1 found.2))
 
 is_down_tells : (set : Place → Type 0) (test : Place → Bool) → Tests set test → (r j : ℕ) → (test (r, j) && not (left_test test r j)) ≡ true → IsBoundaryEdge set (down r j)
 is_down_tells set test tests r j is =
@@ -133,8 +133,8 @@ is_up_tells set test tests r j is =
     record {
       left = left_set set test tests r j parts.0;
       right = λ cell on_right in_set.
-        let at = left_of_down r j cell on_right in
-        not_true (test (r, j)) parts.1 (ap test (sym (place_is cell r j at.0 at.1)) ∙ (tests cell).1 in_set);
+          let at = left_of_down r j cell on_right in
+          not_true (test (r, j)) parts.1 (ap test (sym (place_is cell r j at.0 at.1)) ∙ (tests cell).1 in_set);
     }
 
 has_down : (set : Place → Type 0) (test : Place → Bool) → Tests set test → (edges : List Edge) → IsListOf (IsBoundaryEdge set) edges → (r j : ℕ) → has same_edge edges (down r j) ≡ (test (r, j) && not (left_test test r j))
@@ -190,9 +190,10 @@ odd_is_test set test tests edges all r (suc c) =
 -- so a set that can be tested is enclosed by its boundary
 pub enclosed_by_boundary : (set : Place → Type 0) (test : Place → Bool) → Tests set test → IsEnclosedByBoundary set
 enclosed_by_boundary set test tests edges all cell =
-    let parity : test cell ≡ ((crossing_count edges cell % 2) == 1) = sym (odd_is_test set test tests edges all cell.0 cell.1) ∙ odd_is_count cell edges in
-    (λ in_set. eqb-true (crossing_count edges cell % 2) 1 (sym parity ∙ (tests cell).1 in_set),
-     λ odd. (tests cell).0 (parity ∙ eq-eqb (crossing_count edges cell % 2) 1 odd))
+    let parity : test cell ≡ ((crossing_count edges cell % 2) == 1) = sym (odd_is_test set test tests edges all cell.0 cell.1) ∙ odd_is_count cell edges in (
+      λ in_set. eqb-true (crossing_count edges cell % 2) 1 (sym parity ∙ (tests cell).1 in_set),
+      λ odd. (tests cell).0 (parity ∙ eq-eqb (crossing_count edges cell % 2) 1 odd),
+    )
 
 abbrev is_number : ℕ → Option (Option ℕ) → Bool
 is_number k None = false

@@ -1,10 +1,10 @@
 -- Odd and even counts of edges.
-use Rattle.std.proofs.Common.{◌≡◌, ℕ, ◌+◌, ◌%◌, ◌≤◌, Bool, true, false, not, cond, List, [], ◌∷◌, refl, sym, ap, ◌∙◌, arith}
-use Rattle.std.specs.Prelude.{◌==◌, ◌&&◌, ◌||◌, nat_le, count_by}
+use Rattle.std.proofs.Common.{◌≡◌, ℕ, ◌+◌, ◌%◌, Bool, true, false, not, cond, List, [], ◌∷◌, refl, sym, ap, ◌∙◌, arith}
+use Rattle.std.specs.Prelude.{◌==◌, ◌&&◌, ◌||◌}
 use Rattle.std.proofs.lemmas.Bool.Decides.{nat_tests}
 use Rattle.std.proofs.lemmas.List.Sums.{sum_by-cons}
 use Rattle.cell_base.specs.Raster.{Place}
-use Rattle.edge_trace.specs.Edge.{Corner, Edge}
+use Rattle.edge_trace.specs.Edge.{Edge}
 use Rattle.edge_trace.specs.Crossing.{is_crossed, crossing_count}
 
 abbrev pub differ : Bool → Bool → Bool

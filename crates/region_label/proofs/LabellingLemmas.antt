@@ -1,5 +1,5 @@
 -- What a labelling tells of two cells.
-use Rattle.std.proofs.Common.{◌≡◌, ℕ, ◌<◌, ◌↔◌, Bool, List, [], ◌∷◌, Some, length, get_or, refl, sym, ◌∙◌}
+use Rattle.std.proofs.Common.{◌≡◌, ℕ, ◌↔◌, Bool, [], ◌∷◌, Some, get_or, refl}
 use Rattle.std.specs.Prelude.{slice_get}
 use Rattle.cell_base.specs.Raster.{Place, Raster, value_at}
 use Rattle.cell_base.specs.Steps.{IsStep}
@@ -18,9 +18,10 @@ first_of eight cells valid regions labelled k p in_k =
 -- a cell has the number of another exactly where it is in its component
 pub same_number : {T : Type 0} (eight : Bool) (cells : Raster T) (valid : Raster Bool) (regions : RegionTable) → IsLabelling eight cells valid regions → (k : ℕ) (p q : Place) → IsInRegion regions k p → IsInRegion regions k q ↔ InComponent eight cells valid p q
 same_number eight cells valid regions labelled k p q in_k =
-    let first = first_of eight cells valid regions labelled k p in_k in
-    (λ also. component_trans eight cells valid p first.0 q (component_sym eight cells valid first.0 p first.2) ((labelled.region k first.0 q first.1).0 also),
-     λ joined. (labelled.region k first.0 q first.1).1 (component_trans eight cells valid first.0 p q first.2 joined))
+    let first = first_of eight cells valid regions labelled k p in_k in (
+      λ also. component_trans eight cells valid p first.0 q (component_sym eight cells valid first.0 p first.2) ((labelled.region k first.0 q first.1).0 also),
+      λ joined. (labelled.region k first.0 q first.1).1 (component_trans eight cells valid first.0 p q first.2 joined),
+    )
 
 -- a valid cell of the same value one step away has the same number
 pub number_of_step : {T : Type 0} (eight : Bool) (cells : Raster T) (valid : Raster Bool) (regions : RegionTable) → IsLabelling eight cells valid regions → (k : ℕ) (p q : Place) → IsInRegion regions k p → IsStep eight p q → IsMarked valid q → value_at cells q ≡ value_at cells p → IsInRegion regions k q

@@ -7,3 +7,4 @@ pub mod CountLemmas
 pub mod EndLemmas
 pub mod ComponentRows
 pub mod LabellingLemmas
+pub mod CountLaws

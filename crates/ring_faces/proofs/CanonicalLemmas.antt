@@ -9,8 +9,8 @@ canonical_same P Q same polygon canonical = record {
   valid = canonical.valid;
   covers = λ cell. (λ covered. (same cell).0 ((canonical.covers cell).0 covered), λ is. (canonical.covers cell).1 ((same cell).1 is));
   left = λ e member.
-    let found = canonical.left e member in
-    (found.0, found.1, (same found.0).0 found.2);
+      let found = canonical.left e member in
+      (found.0, found.1, (same found.0).0 found.2);
   turns = canonical.turns;
   starts = canonical.starts;
   order = canonical.order;

@@ -1,12 +1,12 @@
 -- The edges of a ring lead round.
-use Rattle.std.proofs.Common.{◌≡◌, ◌≢◌, ℕ, zero, suc, ◌+◌, ◌-◌, ◌<◌, ◌≤◌, ◌⊎◌, inl, inr, Bool, true, false, List, [], ◌∷◌, ◌++◌, refl, sym, ap, ◌∙◌, subst, arith}
-use Rattle.std.specs.Prelude.{nat_lt, All}
+use Rattle.std.proofs.Common.{◌≡◌, ◌≢◌, ℕ, zero, suc, ◌+◌, inl, inr, List, [], ◌∷◌, ◌++◌, refl, sym, ap, arith}
+use Rattle.std.specs.Prelude.{All}
 use Rattle.std.specs.List.{zip, flat_map}
 use Rattle.std.proofs.lemmas.Bool.Decides.{nat_tests}
 use Rattle.std.proofs.lemmas.List.Elements.{All-nil, All-cons, All-head, All-tail}
 use Rattle.cell_base.specs.Steps.{AreNext}
 use Rattle.edge_trace.specs.Edge.{Corner, Edge, IsUnitEdge}
-use Rattle.ring_faces.specs.Ring.{Ring, cut, distance, edges_of, edges_towards, nearer, pairs_round, IsRing}
+use Rattle.ring_faces.specs.Ring.{cut, distance, edges_of, edges_towards, nearer, IsRing}
 
 -- the edges lead from one corner to another, each a unit edge that begins where the one before ends
 abbrev pub Leads : Corner → List Edge → Corner → Type 0

@@ -1,11 +1,9 @@
 -- The inside of two neighbouring cells differs exactly where an odd number of a ring's edges lie between them.
-use Rattle.std.proofs.Common.{◌≡◌, ℕ, ◌+◌, ◌%◌, ◌<◌, ◌≤◌, ◌⊎◌, inl, inr, Bool, true, false, not, cond, List, [], ◌∷◌, refl, sym, ap, ◌∙◌, arith}
-use Rattle.std.specs.Prelude.{◌==◌, ◌&&◌, ◌||◌, nat_le, count_by}
+use Rattle.std.proofs.Common.{◌≡◌, ℕ, ◌+◌, Bool, false, List, [], ◌∷◌, refl, sym, ap, ◌∙◌, arith}
+use Rattle.std.specs.Prelude.{◌==◌, ◌&&◌, nat_le}
 use Rattle.std.proofs.lemmas.Bool.Decides.{nat_tests}
-use Rattle.std.proofs.lemmas.List.Sums.{sum_by-cons}
-use Rattle.cell_base.specs.Raster.{Place}
 use Rattle.edge_trace.specs.Edge.{Corner, Edge, IsUnitEdge}
-use Rattle.edge_trace.specs.Crossing.{is_crossed, crossing_count}
+use Rattle.edge_trace.specs.Crossing.{is_crossed}
 use Rattle.edge_trace.proofs.ParityLemmas.{change_beside, differ, differ_joins, differ_self, is_level_at, is_odd, is_upright_at, odd_differ}
 use Rattle.ring_faces.proofs.RingLemmas.{Leads}
 

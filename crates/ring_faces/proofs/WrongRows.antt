@@ -1,7 +1,6 @@
 -- Polygons that the definition refuses.
-use Rattle.std.proofs.Common.{◌≡◌, ℕ, zero, suc, ◌+◌, inl, inr, false, List, [], ◌∷◌, refl, ap, subst, arith, lit<}
+use Rattle.std.proofs.Common.{◌≡◌, inl, inr, false, List, [], ◌∷◌, refl, ap, subst, arith, lit<}
 use Rattle.std.proofs.lemmas.Bool.{false≢true}
-use Rattle.edge_trace.specs.Edge.{Edge, HasOnLeft}
 use Rattle.edge_trace.proofs.BoundaryLemmas.{left_of_down, place_is}
 use Rattle.edge_trace.proofs.PlaceTests.{same_place, same_place_told}
 use Rattle.std.specs.Prelude.{Contains}
