@@ -1,2 +1,4 @@
 pub mod Raster
 pub mod Cells
+pub mod Numbers
+pub mod Laws

@@ -63,11 +63,12 @@ impl Frame {
         ensures answer { result ≡ framed_in extent.now (layout_by_size extent.now ncols nrows) }
         ensures frame { IfOk result (λ f. IsFrame f) }
     {
-        let (across, down) = spans(extent)?;
-        check_size(u64::from(ncols), u64::from(nrows))?;
-        let width = share(across, ncols);
-        let height = share(down, nrows);
-        let lower = lower_edge(extent.ymax, u64::from(nrows), height);
+        let (length, depth) = spans(extent)?;
+        let (columns, rows) = (u64::from(ncols), u64::from(nrows));
+        check_size(columns, rows)?;
+        let width = share(length, ncols);
+        let height = share(depth, nrows);
+        let lower = lower_edge(extent.ymax, rows, height);
         place(
             ncols,
             nrows,
