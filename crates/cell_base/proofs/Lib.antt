@@ -5,3 +5,4 @@ pub mod PlaceLemmas
 pub mod OrderLemmas
 pub mod MaskLemmas
 pub mod TestLemmas
+pub mod NarrowLemmas

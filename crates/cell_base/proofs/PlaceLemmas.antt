@@ -1,13 +1,10 @@
-use Rattle.std.proofs.Common.{◌≡◌, ℕ, zero, suc, ◌*◌, inl, inr, List, [], Some, length, length-take, length-drop, take, drop, get_or, ap, sym, ◌∙◌, arith}
+use Rattle.std.proofs.Common.{◌≡◌, ℕ, zero, suc, inl, inr, List, [], Some, length, take, drop, get_or, ap, sym, ◌∙◌, arith}
 use Rattle.std.specs.Prelude.{All, slice_get, unwrap_or}
 use Rattle.std.proofs.lemmas.Bool.{cases_lt}
 use Rattle.std.proofs.lemmas.List.{get_or_past}
 use Rattle.std.proofs.lemmas.List.Elements.{All-take, All-drop}
 use Rattle.std.proofs.lemmas.Option.{slice_get_within, unwrap_or-slice_get, get_or_from_slice_get}
-use Rattle.std.proofs.lemmas.List.Elements.{All-nil, All-cons}
-use Rattle.cell_base.specs.Raster.{Place, Raster, IsInside, IsRaster, raster_of, rows_of, value_at}
-use Rattle.cell_base.specs.Cells.{IsWhole}
-use Rattle.cell_base.proofs.RasterLemmas.{length-rows_of}
+use Rattle.cell_base.specs.Raster.{Place, Raster, IsInside, IsRaster, rows_of, value_at}
 
 no_value : {T : Type 0} (place : ℕ) (v : T) → slice_get {X = T} [] place ≡ Some v → ⊥
 no_value place v is = cc

@@ -4,3 +4,5 @@ pub mod Steps
 pub mod Order
 pub mod Walk
 pub mod Valid
+pub mod Numbers
+pub mod Laws

@@ -1,18 +1,29 @@
 // What a cell of a grid is.
-ghost use Rattle.std.specs.Prelude.{◌≡◌, ◌++◌, ℤ, ◌≤ℤ◌, OnErr, OnOk, negsuc, pos, refl};
-ghost use Rattle.std.specs.Fmt.{signed_decimal};
-
-use itoa::Buffer;
+use super::fault::CellFault;
 use std::alloc::AllocError;
 
-/// A type of cells: whole numbers of a fixed unit between two ends.
+/// A type of cells: numbers of a fixed unit between two ends.
 pub trait Cell: Copy + Eq + Ord {
+    ghost use Rattle.std.specs.Prelude.{◌≡◌, ◌++◌, ◌↔◌, ◌≤ℤ◌, IsTrue, List, OnErr, OnOk, Ok, Result, ℕ, ℤ};
+    ghost use Rattle.std.specs.Ordering.{int_cmp};
+    ghost use Rattle.fixed_coord.specs.Shortest.{shortest};
+    ghost use Rattle.cell_base.specs.Numbers.{clamped};
+    ghost use Rattle.cell_base.specs.declared.fault.CellFault.{CellFault};
+
+    /// How many decimals a value has: its unit is 10^-PLACES.
+    const PLACES: u32;
+
+    ghost PLACES: { ℕ };
+
     /// The number of units that a value stands for.
     ghost units_of: { Self → ℤ };
 
     ghost least: { ℤ };
 
     ghost greatest: { ℤ };
+
+    /// What a text is read as.
+    ghost read_of: { List ℕ → Result Self CellFault };
 
     /// The least number of units.
     fn lowest() -> i64
@@ -28,38 +39,28 @@ pub trait Cell: Copy + Eq + Ord {
         ensures low { least ≤ℤ result }
         ensures high { result ≤ℤ greatest };
 
-    /// Appends the decimal text. A refusal leaves `out` as it was.
+    /// The value of so many units, or of the nearer end.
+    fn clamp_from(v: i128) -> Self
+        ensures { units_of result ≡ clamped least greatest v };
+
+    /// The value that a text stands for.
+    fn read(text: &[u8]) -> Result<Self, CellFault>
+        ensures { result ≡ read_of text.now };
+
+    /// Appends the shortest decimal text. A refusal leaves `out` as it was.
     fn write(self, out: &mut Vec<u8>) -> Result<(), AllocError>
-        ensures ok { OnOk result (out.new.items ≡ out.old.items ++ signed_decimal (units_of self)) }
+        ensures ok { OnOk result (out.new.items ≡ out.old.items ++ shortest (units_of self) PLACES) }
         ensures err { OnErr result (out.new.items ≡ out.old.items) };
 
+    /// Values of as many units are one value.
     ghost same_units: { (a b : Self) → units_of a ≡ units_of b → a ≡ b };
-}
 
-impl Cell for i64 {
-    ghost units_of = { λ v. v };
+    /// `==` holds exactly where the units are equal.
+    ghost eq_units: { (a b : Self) → IsTrue (Self.eq a b) ↔ (units_of a ≡ units_of b) };
 
-    ghost least = { negsuc 9223372036854775807 };
+    /// The order is that of the units.
+    ghost order_units: { (a b : Self) → Self.cmp a b ≡ int_cmp (units_of a) (units_of b) };
 
-    ghost greatest = { pos 9223372036854775807 };
-
-    ghost same_units = { λ a b same. same };
-
-    fn lowest() -> i64 {
-        i64::MIN
-    }
-
-    fn highest() -> i64 {
-        i64::MAX
-    }
-
-    fn units(self) -> i64 {
-        self
-    }
-
-    fn write(self, out: &mut Vec<u8>) -> Result<(), AllocError> {
-        let mut buffer = Buffer::new();
-        out.extend_from_slice(buffer.format(self).as_bytes())?;
-        Ok(())
-    }
+    /// Reading what was written of a value gives it back.
+    ghost reads_written: { (v : Self) → least ≤ℤ units_of v → units_of v ≤ℤ greatest → read_of (shortest (units_of v) PLACES) ≡ Ok v };
 }

@@ -2,6 +2,7 @@ use Rattle.std.proofs.Common.{◌≡◌, ◌++◌, ◌∷◌, suc, pos, to_z, of
 use Rattle.std.specs.Prelude.{◌==◌, if◌then◌else◌}
 use Rattle.std.specs.Fmt.{signed_decimal}
 use Rattle.std.proofs.lemmas.List.{get_or_default}
+use Rattle.fixed_coord.proofs.ShortestLemmas.{shortest_whole}
 use Rattle.asc_grid.specs.Appended.{AppendsPart}
 use Rattle.asc_grid.specs.Canonical.{row_rest}
 use Rattle.asc_grid.proofs.WriteLemmas.{appends_cell, appends_cell_alone, appends_part_then, appends_then, row_rest-cell}
@@ -13,7 +14,7 @@ loop-col-preserved c =
     let col = c.loop-col.col in
     let cell = get_or row col (pos 0) in
     let fits : to_z w64 (of_z w64 cell) ≡ cell = search rules in
-    let written : c.write.new.out.items ≡ c.loop-col.out.items ++ signed_decimal cell = rw fits at c.in_ok-write.ensures.ok in
+    let written : c.write.new.out.items ≡ c.loop-col.out.items ++ signed_decimal cell = rw (fits, shortest_whole cell) at c.in_ok-write.ensures.ok in
     let behind : c.separator.result ≡ (if (suc col) == length row then 10 else 32) = rw (← add-one) c.separator.ensures in
     let next = row_rest-cell row col cell c.loop-col-test.true (get_or_default row col (pos 0) cell c.loop-col-test.true) in
     let text : row_rest (drop col row) ≡ signed_decimal cell ++ c.separator.result ∷ row_rest (drop (suc col) row) = rw behind next in
@@ -31,7 +32,7 @@ returns-in_err-push-clause-err c =
     let col = c.loop-col.col in
     let cell = get_or row col (pos 0) in
     let fits : to_z w64 (of_z w64 cell) ≡ cell = search rules in
-    let written : c.write.new.out.items ≡ c.loop-col.out.items ++ signed_decimal cell = rw fits at c.in_ok-write.ensures.ok in
+    let written : c.write.new.out.items ≡ c.loop-col.out.items ++ signed_decimal cell = rw (fits, shortest_whole cell) at c.in_ok-write.ensures.ok in
     let next = row_rest-cell row col cell c.loop-col-test.true (get_or_default row col (pos 0) cell c.loop-col-test.true) in
     let left = c.in_err-push.ensures.items in
     let part = appends_part_then _ _ _ _ _ c.loop-col.invariant.text (appends_cell_alone _ _ _ _ _ written next) in

@@ -1,4 +1,4 @@
-use Rattle.std.proofs.Common.{◌≡◌, rules, arith, ap, Some, ◌∙◌}
+use Rattle.std.proofs.Common.{rules, arith, ap, Some, ◌∙◌}
 use Rattle.std.proofs.lemmas.Grind.{common_steps}
 use Rattle.std.proofs.lemmas.Nat.{rows}
 use Rattle.cell_base.proofs.RasterLemmas.{slice_get-rows_of}

@@ -1,0 +1,245 @@
+// The four whole types of cells.
+ghost use Rattle.std.specs.Prelude.{◌≡◌, ◌++◌, ◌≤ℤ◌, OnErr, OnOk, Ok, neg_ℤ, pos, refl, unsigned_abs};
+ghost use Rattle.fixed_coord.specs.Shortest.{shortest};
+ghost use Rattle.cell_base.specs.Numbers.{between, clamped, whole_between};
+ghost use Rattle.cell_base.specs.Laws.{byte_eq, byte_order, byte_reads, byte_same, whole_eq, whole_order, whole_reads};
+
+use super::cell::Cell;
+use super::fault::CellFault;
+use fixed_coord::{short_whole, whole};
+use itoa::Buffer;
+use std::alloc::AllocError;
+
+/// The whole number of a text. A short text of digits, by far the commonest cell, takes the narrow way.
+fn read_whole(text: &[u8]) -> Result<i64, CellFault>
+    ensures { result ≡ whole_between (λ n. n) (neg_ℤ (pos 9223372036854775808)) (pos 9223372036854775807) text.now }
+{
+    if let Some(n) = short_whole(text) {
+        return Ok(n);
+    }
+    let n = whole(text)?;
+    num_traits::cast(n).ok_or(CellFault::OutOfRange)
+}
+
+/// Appends the decimal text of a whole number.
+fn write_whole(n: i64, out: &mut Vec<u8>) -> Result<(), AllocError>
+    ensures ok { OnOk result (out.new.items ≡ out.old.items ++ shortest n 0) }
+    ensures err { OnErr result (out.new.items ≡ out.old.items) }
+{
+    let mut buffer = Buffer::new();
+    out.extend_from_slice(buffer.format(n).as_bytes())?;
+    Ok(())
+}
+
+/// A number, or the nearer of two ends.
+fn clamp_whole(v: i128, low: i64, high: i64) -> i64
+    requires { low ≤ℤ high }
+    ensures { result ≡ clamped low high v }
+{
+    num_traits::clamp(v, i128::from(low), i128::from(high)) as i64
+}
+
+impl Cell for i64 {
+    const PLACES: u32 = 0;
+
+    ghost PLACES = { 0 };
+
+    ghost units_of = { λ v. v };
+
+    ghost least = { neg_ℤ (pos 9223372036854775808) };
+
+    ghost greatest = { pos 9223372036854775807 };
+
+    ghost read_of = { whole_between (λ n. n) (neg_ℤ (pos 9223372036854775808)) (pos 9223372036854775807) };
+
+    ghost same_units = { λ a b same. same };
+
+    ghost eq_units = { whole_eq };
+
+    ghost order_units = { whole_order };
+
+    ghost reads_written = { whole_reads (neg_ℤ (pos 9223372036854775808)) (pos 9223372036854775807) refl refl };
+
+    fn lowest() -> i64 {
+        i64::MIN
+    }
+
+    fn highest() -> i64 {
+        i64::MAX
+    }
+
+    fn units(self) -> i64 {
+        self
+    }
+
+    fn clamp_from(v: i128) -> i64 {
+        clamp_whole(v, i64::MIN, i64::MAX)
+    }
+
+    fn read(text: &[u8]) -> Result<i64, CellFault> {
+        read_whole(text)
+    }
+
+    fn write(self, out: &mut Vec<u8>) -> Result<(), AllocError> {
+        write_whole(self, out)
+    }
+}
+
+impl Cell for i32 {
+    const PLACES: u32 = 0;
+
+    ghost PLACES = { 0 };
+
+    ghost units_of = { λ v. v };
+
+    ghost least = { neg_ℤ (pos 2147483648) };
+
+    ghost greatest = { pos 2147483647 };
+
+    ghost read_of = { whole_between (λ n. n) (neg_ℤ (pos 2147483648)) (pos 2147483647) };
+
+    ghost same_units = { λ a b same. same };
+
+    ghost eq_units = { whole_eq };
+
+    ghost order_units = { whole_order };
+
+    ghost reads_written = { whole_reads (neg_ℤ (pos 2147483648)) (pos 2147483647) refl refl };
+
+    fn lowest() -> i64 {
+        i64::from(i32::MIN)
+    }
+
+    fn highest() -> i64 {
+        i64::from(i32::MAX)
+    }
+
+    fn units(self) -> i64 {
+        i64::from(self)
+    }
+
+    fn clamp_from(v: i128) -> i32 {
+        clamp_whole(v, i64::from(i32::MIN), i64::from(i32::MAX)) as i32
+    }
+
+    fn read(text: &[u8]) -> Result<i32, CellFault> {
+        narrow_i32(read_whole(text)?)
+    }
+
+    fn write(self, out: &mut Vec<u8>) -> Result<(), AllocError> {
+        write_whole(i64::from(self), out)
+    }
+}
+
+/// A whole number as an `i32`, if the type has it.
+fn narrow_i32(n: i64) -> Result<i32, CellFault>
+    ensures { result ≡ between (λ n. n) (neg_ℤ (pos 2147483648)) (pos 2147483647) (Ok n) }
+{
+    num_traits::cast(n).ok_or(CellFault::OutOfRange)
+}
+
+impl Cell for i16 {
+    const PLACES: u32 = 0;
+
+    ghost PLACES = { 0 };
+
+    ghost units_of = { λ v. v };
+
+    ghost least = { neg_ℤ (pos 32768) };
+
+    ghost greatest = { pos 32767 };
+
+    ghost read_of = { whole_between (λ n. n) (neg_ℤ (pos 32768)) (pos 32767) };
+
+    ghost same_units = { λ a b same. same };
+
+    ghost eq_units = { whole_eq };
+
+    ghost order_units = { whole_order };
+
+    ghost reads_written = { whole_reads (neg_ℤ (pos 32768)) (pos 32767) refl refl };
+
+    fn lowest() -> i64 {
+        i64::from(i16::MIN)
+    }
+
+    fn highest() -> i64 {
+        i64::from(i16::MAX)
+    }
+
+    fn units(self) -> i64 {
+        i64::from(self)
+    }
+
+    fn clamp_from(v: i128) -> i16 {
+        clamp_whole(v, i64::from(i16::MIN), i64::from(i16::MAX)) as i16
+    }
+
+    fn read(text: &[u8]) -> Result<i16, CellFault> {
+        narrow_i16(read_whole(text)?)
+    }
+
+    fn write(self, out: &mut Vec<u8>) -> Result<(), AllocError> {
+        write_whole(i64::from(self), out)
+    }
+}
+
+/// A whole number as an `i16`, if the type has it.
+fn narrow_i16(n: i64) -> Result<i16, CellFault>
+    ensures { result ≡ between (λ n. n) (neg_ℤ (pos 32768)) (pos 32767) (Ok n) }
+{
+    num_traits::cast(n).ok_or(CellFault::OutOfRange)
+}
+
+impl Cell for u8 {
+    const PLACES: u32 = 0;
+
+    ghost PLACES = { 0 };
+
+    ghost units_of = { λ v. pos v };
+
+    ghost least = { pos 0 };
+
+    ghost greatest = { pos 255 };
+
+    ghost read_of = { whole_between unsigned_abs (pos 0) (pos 255) };
+
+    ghost same_units = { byte_same };
+
+    ghost eq_units = { byte_eq };
+
+    ghost order_units = { byte_order };
+
+    ghost reads_written = { byte_reads };
+
+    fn lowest() -> i64 {
+        i64::from(u8::MIN)
+    }
+
+    fn highest() -> i64 {
+        i64::from(u8::MAX)
+    }
+
+    fn units(self) -> i64 {
+        i64::from(self)
+    }
+
+    fn clamp_from(v: i128) -> u8 {
+        clamp_whole(v, i64::from(u8::MIN), i64::from(u8::MAX)) as u8
+    }
+
+    fn read(text: &[u8]) -> Result<u8, CellFault> {
+        narrow_u8(read_whole(text)?)
+    }
+
+    fn write(self, out: &mut Vec<u8>) -> Result<(), AllocError> {
+        write_whole(i64::from(self), out)
+    }
+}
+
+/// A whole number as a `u8`, if the type has it.
+fn narrow_u8(n: i64) -> Result<u8, CellFault>
+    ensures { result ≡ between unsigned_abs (pos 0) (pos 255) (Ok n) }
+{
+    num_traits::cast(n).ok_or(CellFault::OutOfRange)
+}

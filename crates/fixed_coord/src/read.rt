@@ -1,0 +1,104 @@
+// Reading number texts.
+ghost use Rattle.std.specs.Prelude.{◌≡◌, ◌+◌, ◌/◌, ◌≤◌, ◌<◌, ◌^◌, ◌↔◌, IfSome, IsSome, Ok};
+ghost use Rattle.std.specs.Str.Parse.{digits_value};
+ghost use Rattle.fixed_coord.specs.Number.{behind_sign};
+ghost use Rattle.fixed_coord.specs.Held.{held, scaled_of};
+ghost use Rattle.fixed_coord.specs.Whole.{IsShort, whole_of};
+
+use super::fault::NumberFault;
+use super::held::cut_at_point;
+use super::parts::{sign, split};
+
+/// No number is read as more than this in size: 10^30.
+const MOST: u128 = 1_000_000_000_000_000_000_000_000_000_000;
+
+/// The most digits that any number of them fits `i64`.
+const SHORT: usize = 18;
+
+/// The number of this sign and size, its size held at 10^30.
+fn signed(negative: bool, size: u128) -> i128
+    ensures { result ≡ held negative size }
+{
+    let size = size.min(MOST) as i128;
+    if negative { -size } else { size }
+}
+
+/// A tenth, rounded half up. Most numbers are small, and a narrow division is the faster one.
+fn tenth(tenths: u128) -> u128
+    requires { tenths ≤ 10 ^ 32 }
+    ensures { result ≡ (tenths + 5) / 10 }
+{
+    if tenths < 1_000_000_000_000_000_000 {
+        u128::from((tenths as u64 + 5) / 10)
+    } else {
+        (tenths + 5) / 10
+    }
+}
+
+/// The number of units of 10^-places that a number text stands for, rounded half away from zero, and held between
+/// -10^30 and 10^30. The only fault is `NotNumber`, where the text isn't a number text.
+pub fn scaled(text: &[u8], places: u32) -> Result<i128, NumberFault>
+    requires { places ≤ 10 }
+    ensures { result ≡ scaled_of places text.now }
+{
+    let Some(number) = split(text) else {
+        return Err(NumberFault::NotNumber);
+    };
+    let cut = cut_at_point(
+        number.whole,
+        number.fraction,
+        number.down,
+        number.power,
+        places + 1,
+    );
+    Ok(signed(number.negative, tenth(cut.front)))
+}
+
+/// The whole number that a number text stands for, held between -10^30 and 10^30. `NotNumber` where the text isn't
+/// a number text, then `NotWhole` where its value isn't whole.
+pub fn whole(text: &[u8]) -> Result<i128, NumberFault>
+    ensures { result ≡ whole_of text.now }
+{
+    if let Some(value) = short_whole(text) {
+        return Ok(i128::from(value));
+    }
+    let Some(number) = split(text) else {
+        return Err(NumberFault::NotNumber);
+    };
+    let cut = cut_at_point(number.whole, number.fraction, number.down, number.power, 0);
+    if cut.behind == 0 {
+        Ok(signed(number.negative, cut.front))
+    } else {
+        Err(NumberFault::NotWhole)
+    }
+}
+
+/// The whole number that a short text of digits, with a sign or none, stands for: what `whole` answers, by a faster way.
+/// `None` where the text has anything but digits behind its sign, none of them, or more than eighteen.
+pub fn short_whole(text: &[u8]) -> Option<i64>
+    ensures value { IfSome result (λ n. whole_of text.now ≡ Ok n) }
+    ensures short { IsSome result ↔ IsShort (behind_sign text.now) }
+{
+    let (negative, digits) = sign(text);
+    let size = short_size(digits)? as i64;
+    Some(if negative { -size } else { size })
+}
+
+/// The number that one to eighteen digits spell.
+fn short_size(digits: &[u8]) -> Option<u64>
+    ensures value { IfSome result (λ n. n ≡ digits_value 10 digits.now) }
+    ensures small { IfSome result (λ n. n < 10 ^ 18) }
+    ensures short { IsSome result ↔ IsShort digits.now }
+{
+    if digits.is_empty() || digits.len() > SHORT {
+        return None;
+    }
+    let mut size = 0u64;
+    for digit in digits {
+        if !digit.is_ascii_digit() {
+            return None;
+        }
+        size = size * 10 + u64::from(*digit - b'0');
+    }
+    Some(size)
+}

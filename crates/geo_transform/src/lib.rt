@@ -1,0 +1,11 @@
+//! Frames: where the cells of a grid lie in the plane.
+#![tactic(auto)]
+
+mod extent;
+mod fault;
+mod frame;
+mod place;
+
+pub use extent::Extent;
+pub use fault::FrameFault;
+pub use frame::Frame;
