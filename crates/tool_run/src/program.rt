@@ -90,7 +90,7 @@ pub fn run<F: Folder, O: Sink, E: Sink>(
     ensures usage { begins_with_tool words.now ≡ false → (result ≡ Status.Usage) ⊎ (result ≡ Status.NoMemory) }
     ensures not_usage { result ≡ Status.Usage → begins_with_tool words.now ≡ false }
     ensures not_built { sieve_job_of words.now ≡ None → begins_with_tool words.now ≡ true → (result ≡ Status.NotBuilt) ⊎ (result ≡ Status.NoMemory) }
-    ensures later { (result ≢ Status.BadInput) × (result ≢ Status.TooLarge) }
+    ensures not_yet { (result ≢ Status.BadInput) × (result ≢ Status.TooLarge) }
 
     // Each fault of the outside has its cause.
     ensures missing { result ≡ Status.Missing → Rose (F.missing folder.old) (F.missing folder.new) }
