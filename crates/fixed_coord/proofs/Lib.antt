@@ -7,3 +7,4 @@ pub mod ReadLemmas
 pub mod WriteLemmas
 pub mod ShortestLemmas
 mod NumberRows
+pub mod FewestLemmas

@@ -1,9 +1,9 @@
 // What holds of the numbers, whatever code reads and writes them.
-ghost use Rattle.std.specs.Prelude.{◌≡◌, ◌<◌, ◌^◌, ◌≤◌, ℕ, ℤ, Ok, unsigned_abs};
+ghost use Rattle.std.specs.Prelude.{◌≡◌, ◌<◌, ◌^◌, ◌≤◌, ℕ, ℤ, List, Ok, length, unsigned_abs};
 ghost use Rattle.std.specs.Fmt.{signed_decimal};
 ghost use Rattle.fixed_coord.specs.Held.{scaled_of};
 ghost use Rattle.fixed_coord.specs.Round.{IsNearest, round_ratio};
-ghost use Rattle.fixed_coord.specs.Shortest.{shortest};
+ghost use Rattle.fixed_coord.specs.Shortest.{IsPlain, plain_text, shortest, shortest_size};
 ghost use Rattle.fixed_coord.specs.Whole.{whole_of};
 
 /// A rounded fraction is the nearest whole number, of two that are as near the greater, and no other number is.
@@ -22,4 +22,9 @@ pub fn reads_what_is_written()
 pub fn writes_whole_numbers()
     ensures text { (v : ℤ) → shortest v 0 ≡ signed_decimal v }
     ensures reads { (v : ℤ) → unsigned_abs v ≤ 10 ^ 30 → whole_of (shortest v 0) ≡ Ok v }
+{}
+
+/// No text of whole digits and decimals that stands for a size of at most 10^30 is shorter than the shortest text.
+pub fn writes_the_shortest()
+    ensures { (size places : ℕ) (whole fraction : List ℕ) → size ≤ 10 ^ 30 → IsPlain size places whole fraction → length (shortest_size size places) ≤ length (plain_text whole fraction) }
 {}

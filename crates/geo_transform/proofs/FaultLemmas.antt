@@ -11,6 +11,7 @@ use Rattle.fixed_coord.specs.Coordinate.{IsCoord, is_coord}
 use Rattle.geo_transform.specs.Layout.{Layout, most_cells, right_edge, upper_edge, layout_by_size, layout_by_cell, steps_in}
 use Rattle.fixed_coord.specs.Round.{round_half_away}
 use Rattle.geo_transform.specs.declared.extent.Extent.{Extent}
+use Rattle.geo_transform.specs.declared.frame.Frame.{Frame}
 use Rattle.geo_transform.specs.declared.fault.FrameFault.{FrameFault}
 use Rattle.geo_transform.specs.declared.fault.FrameFault.TheVariants.{BadSize, TooLarge, BadCell, NotSquare, OutOfRange}
 use Rattle.geo_transform.specs.Fault.{has_no_cells, has_too_many_cells, has_flat_cells, has_oblong_cells, is_too_far, reaches, all_coords, fault_of, frame_of, unless, framed, framed_in, is_empty}
@@ -165,3 +166,18 @@ pub by_cell : (e : Extent) (ncols nrows : ℕ) (left lower width height xres yre
 by_cell e ncols nrows left lower width height xres yres m n a b c d =
     let h : lower ≡ e.ymax -ℤ pos (steps_in (e.ymax -ℤ e.ymin) yres) *ℤ yres = b ∙ ap (λ k. e.ymax -ℤ pos k *ℤ height) n ∙ ap (λ z. e.ymax -ℤ pos (steps_in (e.ymax -ℤ e.ymin) yres) *ℤ z) d in
     cc
+
+within : (z : ℤ) → IsCoord z → is_coord z ≡ true
+within z h = grind (arith, ints, h.low, h.high)
+
+-- the numbers of a frame are accepted
+pub frame_accepted : (f : Frame) → IsFrame f → framed (record { ncols = f.ncols; nrows = f.nrows; left = f.xll; lower = f.yll; width = f.cell; height = f.cell }) ≡ Ok f
+frame_accepted f is =
+    let l : Layout = record { ncols = f.ncols; nrows = f.nrows; left = f.xll; lower = f.yll; width = f.cell; height = f.cell } in
+    let a = within f.cell is.size in
+    let b = within f.xll is.left in
+    let c = within f.yll is.lower in
+    let d = within (right_edge l) is.right in
+    let e = within (upper_edge l) is.upper in
+    let near : is_too_far l ≡ false = rw (a, b, c, d, e) refl in
+    good l (good_counts l is.some_cols is.some_rows is.few_cells) (not_flat l is.some_size is.some_size) (not_oblong l refl) near

@@ -4,8 +4,10 @@
 mod extent;
 mod fault;
 mod frame;
+mod laws;
 mod place;
 
 pub use extent::Extent;
 pub use fault::FrameFault;
 pub use frame::Frame;
+pub use laws::makes_each_frame;
