@@ -113,7 +113,7 @@ abbrev pub spans : List Place → List Place → Bool
 spans seen [] = true
 spans seen (c ∷ cs) = list_any (λ s. shares_side s c) seen && spans (c ∷ seen) cs
 
-spanned : (set : Place → Type 0) (test : Place → Bool) (tells : (p : Place) → test p ≡ true → set p) (root : Place) (seen todo : List Place) → ((p : Place) → Contains seen p → IsJoined false set root p) → list_all test todo ≡ true → spans seen todo ≡ true → (p : Place) → Contains todo p → IsJoined false set root p
+spanned : (set : Place → Type 0) (test : Place → Bool) (tells : (p : Place) → test p ≡ true → set p) (root : Place) (seen ahead : List Place) → ((p : Place) → Contains seen p → IsJoined false set root p) → list_all test ahead ≡ true → spans seen ahead ≡ true → (p : Place) → Contains ahead p → IsJoined false set root p
 spanned set test tells root seen [] joined all spanning p member = absurd (omega (arith, member.1))
 spanned set test tells root seen (c ∷ cs) joined all spanning p member =
     let parts = both (list_any (λ s. shares_side s c) seen) (spans (c ∷ seen) cs) spanning in
