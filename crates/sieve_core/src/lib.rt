@@ -1,2 +1,6 @@
 //! The sieve.
 #![tactic(auto)]
+
+mod laws;
+
+pub use laws::chain_has_one_end;
