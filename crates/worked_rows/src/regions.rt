@@ -85,6 +85,32 @@ fn two_in_an_angle(rt: HostRuntime) -> Result<(), Fail> {
             &[3, 3]
         )?
     );
+    assert!(rt;
+        finds::<true>(
+            rt.alloc(),
+            (3, 2),
+            &cells,
+            &[0, 0, 1, 0, 1, 1],
+            &[0, 2],
+            &[3, 3]
+        )?
+    );
+    Ok(())
+}
+
+#[test]
+fn one_cell(rt: HostRuntime) -> Result<(), Fail> {
+    assert!(rt; finds::<false>(rt.alloc(), (1, 1), &[-5], &[0], &[0], &[1])?);
+    assert!(rt; finds::<true>(rt.alloc(), (1, 1), &[-5], &[0], &[0], &[1])?);
+    Ok(())
+}
+
+#[test]
+fn a_ring_of_cells_round_one(rt: HostRuntime) -> Result<(), Fail> {
+    let cells = [1, 1, 1, 1, 2, 1, 1, 1, 1];
+    let numbers = [0, 0, 0, 0, 1, 0, 0, 0, 0];
+    assert!(rt; finds::<false>(rt.alloc(), (3, 3), &cells, &numbers, &[0, 11], &[8, 1])?);
+    assert!(rt; finds::<true>(rt.alloc(), (3, 3), &cells, &numbers, &[0, 11], &[8, 1])?);
     Ok(())
 }
 
