@@ -31,7 +31,6 @@ usage_line (word ∷ words) = line_of_words fault.UnknownTool
 -- the line of a run whose words have this job, or none
 abbrev pub line_of : Option SieveJob → Status → List ℕ
 line_of None NotBuilt = line_of_words fault.NotBuilt
-line_of None NoMemory = line_of_words fault.NoMemory
 line_of None status = []
 line_of (Some job) status = line_of_job job status
 

@@ -1,7 +1,6 @@
 -- The status of a run.
-use Rattle.std.specs.Prelude.{ℕ}
+use Rattle.std.specs.Prelude.{ℕ, Ok, Err}
 use Rattle.std.specs.declared.result.Result.{Result}
-use Rattle.std.specs.Prelude.{Ok, Err}
 use Rattle.tool_run.specs.declared.status.Status.{Status}
 use Rattle.tool_run.specs.declared.status.Status.TheVariants.{Done, Usage, BadInput, Missing, ReadFault, WriteFault, NoMemory, TooLarge, NotBuilt}
 use Rattle.tool_run.specs.declared.fault.Fault.{Fault}

@@ -1,5 +1,5 @@
 -- The refusals of words.
-use Rattle.std.specs.Prelude.{◌≡◌, true, false, List, ◌∷◌, [], None}
+use Rattle.std.specs.Prelude.{◌≡◌, true, false, List, ◌∷◌, [], None, IsSome}
 use Rattle.tool_run.specs.Words.{Text, begins_with_tool, is_tool, sieve_job_of}
 use Rattle.tool_run.specs.declared.read_words.WordsFault.{WordsFault}
 use Rattle.tool_run.specs.declared.read_words.WordsFault.TheVariants.{NoTool, UnknownTool, NotBuilt, NoMemory}
@@ -9,4 +9,4 @@ abbrev pub IsRefused : List Text → WordsFault → Type 0
 IsRefused words NoTool = words ≡ []
 IsRefused words UnknownTool = (word : Text) × (others : List Text) × (words ≡ word ∷ others) × (is_tool word ≡ false)
 IsRefused words NotBuilt = (begins_with_tool words ≡ true) × (sieve_job_of words ≡ None)
-IsRefused words NoMemory = Unit {0}
+IsRefused words NoMemory = (begins_with_tool words ≡ true) × IsSome (sieve_job_of words)

@@ -1,5 +1,5 @@
 // The top call.
-ghost use Rattle.std.specs.Prelude.{◌≡◌, ◌⊎◌, ◌≢◌, None, true, false, IfSome};
+ghost use Rattle.std.specs.Prelude.{◌≡◌, ◌≢◌, None, true, false, IfSome};
 ghost use Rattle.rv_outside.specs.Causes.{Rose};
 ghost use Rattle.tool_run.specs.Message.{line_of_job, line_of_words, message};
 ghost use Rattle.tool_run.specs.Outcome.{IsDone, LeavesPart, Meets, outcome};
@@ -87,9 +87,9 @@ pub fn run<F: Folder, O: Sink, E: Sink>(
     ensures part { result ≢ Status.Done → IfSome (F.files folder.old) (λ files. LeavesPart (outcome words.now files) (dest_of words.now) files (F.files folder.new)) }
 
     // The words alone decide these, whatever the folder.
-    ensures usage { begins_with_tool words.now ≡ false → (result ≡ Status.Usage) ⊎ (result ≡ Status.NoMemory) }
+    ensures usage { begins_with_tool words.now ≡ false → result ≡ Status.Usage }
     ensures not_usage { result ≡ Status.Usage → begins_with_tool words.now ≡ false }
-    ensures not_built { sieve_job_of words.now ≡ None → begins_with_tool words.now ≡ true → (result ≡ Status.NotBuilt) ⊎ (result ≡ Status.NoMemory) }
+    ensures not_built { sieve_job_of words.now ≡ None → begins_with_tool words.now ≡ true → result ≡ Status.NotBuilt }
     ensures not_yet { (result ≢ Status.BadInput) × (result ≢ Status.TooLarge) }
 
     // Each fault of the outside has its cause.
