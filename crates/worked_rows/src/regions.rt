@@ -72,21 +72,31 @@ fn finds<const EIGHT: bool>(
     Ok(has_numbers(&regions, want) && has_components(&regions, firsts, sizes))
 }
 
+/// Whether labelling finds these components under four and under eight alike.
+fn finds_both(
+    alloc: Global,
+    size: (u32, u32),
+    cells: &[i64],
+    want: &[u32],
+    firsts: &[u64],
+    sizes: &[u32],
+) -> Result<bool, AllocError>
+    requires cols { 0 < size.0 }
+    requires rows { 0 < size.1 }
+    requires small { size.0 * size.1 ≤ most_cells }
+    requires whole { length cells.now ≡ size.0 * size.1 }
+{
+    Ok(
+        finds::<false>(alloc, size, cells, want, firsts, sizes)?
+            && finds::<true>(alloc, size, cells, want, firsts, sizes)?,
+    )
+}
+
 #[test]
 fn two_in_an_angle(rt: HostRuntime) -> Result<(), Fail> {
     let cells = [1, 1, 2, 1, 2, 2];
     assert!(rt;
-        finds::<false>(
-            rt.alloc(),
-            (3, 2),
-            &cells,
-            &[0, 0, 1, 0, 1, 1],
-            &[0, 2],
-            &[3, 3]
-        )?
-    );
-    assert!(rt;
-        finds::<true>(
+        finds_both(
             rt.alloc(),
             (3, 2),
             &cells,
@@ -100,8 +110,7 @@ fn two_in_an_angle(rt: HostRuntime) -> Result<(), Fail> {
 
 #[test]
 fn one_cell(rt: HostRuntime) -> Result<(), Fail> {
-    assert!(rt; finds::<false>(rt.alloc(), (1, 1), &[-5], &[0], &[0], &[1])?);
-    assert!(rt; finds::<true>(rt.alloc(), (1, 1), &[-5], &[0], &[0], &[1])?);
+    assert!(rt; finds_both(rt.alloc(), (1, 1), &[-5], &[0], &[0], &[1])?);
     Ok(())
 }
 
@@ -109,8 +118,7 @@ fn one_cell(rt: HostRuntime) -> Result<(), Fail> {
 fn a_ring_of_cells_round_one(rt: HostRuntime) -> Result<(), Fail> {
     let cells = [1, 1, 1, 1, 2, 1, 1, 1, 1];
     let numbers = [0, 0, 0, 0, 1, 0, 0, 0, 0];
-    assert!(rt; finds::<false>(rt.alloc(), (3, 3), &cells, &numbers, &[0, 11], &[8, 1])?);
-    assert!(rt; finds::<true>(rt.alloc(), (3, 3), &cells, &numbers, &[0, 11], &[8, 1])?);
+    assert!(rt; finds_both(rt.alloc(), (3, 3), &cells, &numbers, &[0, 11], &[8, 1])?);
     Ok(())
 }
 
@@ -169,9 +177,9 @@ fn a_chequer(rt: HostRuntime) -> Result<(), Fail> {
 
 #[test]
 fn cells_that_are_not_valid(rt: HostRuntime) -> Result<(), Fail> {
-    assert!(rt; finds::<false>(rt.alloc(), (2, 1), &[-9999, -9999], &[99, 99], &[], &[])?);
+    assert!(rt; finds_both(rt.alloc(), (2, 1), &[-9999, -9999], &[99, 99], &[], &[])?);
     assert!(rt;
-        finds::<true>(
+        finds_both(
             rt.alloc(),
             (3, 1),
             &[1, -9999, 1],
@@ -186,7 +194,7 @@ fn cells_that_are_not_valid(rt: HostRuntime) -> Result<(), Fail> {
 #[test]
 fn runs_in_a_row(rt: HostRuntime) -> Result<(), Fail> {
     assert!(rt;
-        finds::<false>(
+        finds_both(
             rt.alloc(),
             (6, 1),
             &[1, 2, 2, 3, 3, 3],
@@ -196,7 +204,7 @@ fn runs_in_a_row(rt: HostRuntime) -> Result<(), Fail> {
         )?
     );
     assert!(rt;
-        finds::<false>(
+        finds_both(
             rt.alloc(),
             (5, 1),
             &[5, 5, 7, 6, 6],
@@ -210,9 +218,9 @@ fn runs_in_a_row(rt: HostRuntime) -> Result<(), Fail> {
 
 #[test]
 fn short_rows(rt: HostRuntime) -> Result<(), Fail> {
-    assert!(rt; finds::<false>(rt.alloc(), (2, 1), &[1, 2], &[0, 1], &[0, 1], &[1, 1])?);
+    assert!(rt; finds_both(rt.alloc(), (2, 1), &[1, 2], &[0, 1], &[0, 1], &[1, 1])?);
     assert!(rt;
-        finds::<false>(
+        finds_both(
             rt.alloc(),
             (4, 1),
             &[1, 2, 3, 3],
@@ -222,7 +230,7 @@ fn short_rows(rt: HostRuntime) -> Result<(), Fail> {
         )?
     );
     assert!(rt;
-        finds::<true>(
+        finds_both(
             rt.alloc(),
             (3, 1),
             &[1, -9999, 2],
