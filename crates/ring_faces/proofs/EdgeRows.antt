@@ -78,3 +78,25 @@ joined_holes_edges : IsEdgePolygon (Contains two_holed) (record {
   holes = ((1, 1) ∷ (1, 2) ∷ (2, 2) ∷ (2, 3) ∷ (3, 3) ∷ (3, 2) ∷ (2, 2) ∷ (2, 1) ∷ []) ∷ [];
 })
 joined_holes_edges = is_edge_polygon_tells two_holed _ refl
+
+-- under eight, cells that share a corner alone are one component: its boundary edges are those round its parts
+
+-- the twos of 1 1 1 / 1 2 1 / 1 1 2, and of 1 1 1 1 / 1 2 1 1 / 1 1 2 1 / 1 1 1 1
+diagonal_edges : IsEdgePolygon (Contains ((1, 1) ∷ (2, 2) ∷ [])) (record {
+  shell = (1, 1) ∷ (2, 1) ∷ (2, 2) ∷ (1, 2) ∷ [];
+  holes = ((2, 2) ∷ (3, 2) ∷ (3, 3) ∷ (2, 3) ∷ []) ∷ [];
+})
+diagonal_edges = is_edge_polygon_tells ((1, 1) ∷ (2, 2) ∷ []) _ refl
+
+-- the ones and the twos of 1 2 / 2 1
+falling_edges : IsEdgePolygon (Contains ((0, 0) ∷ (1, 1) ∷ [])) (record {
+  shell = (0, 0) ∷ (1, 0) ∷ (1, 1) ∷ (0, 1) ∷ [];
+  holes = ((1, 1) ∷ (2, 1) ∷ (2, 2) ∷ (1, 2) ∷ []) ∷ [];
+})
+falling_edges = is_edge_polygon_tells ((0, 0) ∷ (1, 1) ∷ []) _ refl
+
+rising_edges : IsEdgePolygon (Contains ((0, 1) ∷ (1, 0) ∷ [])) (record {
+  shell = (0, 1) ∷ (1, 1) ∷ (1, 2) ∷ (0, 2) ∷ [];
+  holes = ((1, 0) ∷ (2, 0) ∷ (2, 1) ∷ (1, 1) ∷ []) ∷ [];
+})
+rising_edges = is_edge_polygon_tells ((0, 1) ∷ (1, 0) ∷ []) _ refl
