@@ -1,6 +1,6 @@
 -- What a sink has taken, piece after piece.
 use Rattle.std.proofs.Common.{ℕ, ◌++◌, [], List, Option, Some, None, refl, ap, ◌∙◌, append-nil, append_assoc}
-use Rattle.rv_outside.specs.Written.{Adds}
+use Rattle.rv_outside.specs.Sink.{Adds}
 
 pub adds_nothing : (before : Option (List ℕ)) → Adds before before []
 adds_nothing None = refl

@@ -1,14 +1,12 @@
--- What a count of faults says of a call's answer.
-use Rattle.std.specs.Prelude.{ℕ, ◌+◌, ◌-◌, ◌^◌, ◌≤◌, min, IsErrOf}
-use Rattle.std.specs.declared.result.Result.{Result}
-use Rattle.rv_outside.specs.declared.folder.Trouble.{Trouble}
-use Rattle.rv_outside.specs.declared.folder.Trouble.TheVariants.{Failed}
+-- When a count of faults rises. Source: this project's own.
+use Rattle.std.specs.Prelude.{◌≡◌, ℕ, ◌+◌, ◌-◌, ◌^◌, ◌≤◌, min}
 
--- the count rose, or stands at the last value of a `u64`
+-- the count rose by one, or stands at the last value of a `u64`
 abbrev pub Rose : ℕ → ℕ → Type 0
-Rose before now = min (before + 1) (2 ^ 64 - 1) ≤ now
+Rose before now = now ≡ min (before + 1) (2 ^ 64 - 1)
 
--- the count has not fallen, and `Failed` is answered only where it rose
-pub record HasCause {T : Type 0} (before now : ℕ) (result : Result T Trouble) : Type 0 where
+-- the count rises with this answer and with no other, and never falls
+pub record Counts (answer : Type 0) (before now : ℕ) : Type 0 where
+  pub rose : answer → Rose before now
+  pub stood : ¬ answer → now ≡ before
   pub later : before ≤ now
-  pub failed : IsErrOf result Failed → Rose before now

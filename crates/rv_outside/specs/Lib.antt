@@ -1,6 +1,8 @@
 pub mod Causes
 pub mod Files
-pub mod Kept
+pub mod Folder
 pub mod MemoryFolder
 pub mod MemorySink
-pub mod Written
+pub mod Sink
+pub mod StdSink
+pub mod Inner

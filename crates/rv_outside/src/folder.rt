@@ -1,7 +1,6 @@
 // A folder of files.
-ghost use Rattle.std.specs.Prelude.{◌⊎◌, ◌≡◌, ◌<◌, ◌≤◌, ℕ, [], Option, length, take, IfOk, OnOk, OnErr, IfSome, IsSome};
-ghost use Rattle.rv_outside.specs.Files.{Files, Reads, IsWithin, with_file, with_appended, Becomes};
-ghost use Rattle.rv_outside.specs.Causes.{HasCause, Rose};
+ghost use Rattle.std.specs.Prelude.{◌<◌, length, IfSome, IsSome};
+ghost use Rattle.rv_outside.specs.Folder.{FolderState, ReadsAt, Creates, AppendsTo};
 
 /// Why a call did not do what it was asked to.
 #[derive(Clone, Copy, Debug, PartialEq, Eq)]
@@ -17,7 +16,7 @@ pub enum Trouble {
 pub enum Taken {
     /// So many bytes, at least one.
     Bytes(usize),
-    /// None, since the file ends at or before the place.
+    /// None, since the file ends at or before the offset.
     End,
     /// None, since nothing has the name.
     Missing,
@@ -25,48 +24,27 @@ pub enum Taken {
 
 /// A folder of files by name.
 ///
-/// `files` is what each name stands for, where the folder tells it. A folder that tells its files before a
-/// call tells them after it. The three counts never fall. Where a clause says that a count rose, it rose or
-/// stands at the last value of a `u64`.
+/// `state` has the files, where the folder tells them, and three counts. A folder that tells its files before
+/// a call tells them after it. `read_faults` rises by one exactly where a read answers `Failed`,
+/// `write_faults` where another call does, and `missing` where a read answers `Missing`; each stands still at
+/// the last value of a `u64`.
 pub trait Folder {
-    ghost files: { Self → Option Files };
+    ghost state: { Self → FolderState };
 
-    ghost read_faults: { Self → ℕ };
-
-    ghost write_faults: { Self → ℕ };
-
-    ghost missing: { Self → ℕ };
-
-    /// Reads bytes of the file from the place `at` on. `Failed` comes only where `read_faults` rose, and
-    /// `Missing` only where `missing` rose.
-    fn read_at(&mut self, name: &str, at: u64, into: &mut [u8]) -> Result<Taken, Trouble>
+    /// Reads bytes of the file from an offset on. `Missing` comes only where nothing has the name, `End`
+    /// only where the file ends at or before the offset. The files stay as they are.
+    fn read_at(&mut self, name: &str, offset: u64, into: &mut [u8]) -> Result<Taken, Trouble>
         requires { 0 < length into.old }
-        ensures within { IfOk result (λ taken. IsWithin taken (length into.new)) }
-        ensures content { IfOk result (λ taken. IfSome (files self.old) (λ told. Reads (told name.now) at into.new taken)) }
-        ensures same { files self.new ≡ files self.old }
-        ensures cause { HasCause (read_faults self.old) (read_faults self.new) result }
-        ensures gone { result ≡ Ok Taken.Missing → Rose (missing self.old) (missing self.new) }
-        ensures gone_later { missing self.old ≤ missing self.new }
-        ensures no_write { write_faults self.new ≡ write_faults self.old };
+        ensures { ReadsAt name.now offset into.new result (state self.old) (state self.new) };
 
-    /// Makes the file, or empties the one that is there. After an error it is empty or as before. `Failed`
-    /// comes only where `write_faults` rose.
+    /// Makes the file, or empties the one that is there. After an error it is empty or as before.
     fn create(&mut self, name: &str) -> Result<(), Trouble>
-        ensures made { OnOk result (Becomes (files self.old) (files self.new) (with_file name.now [])) }
-        ensures err { OnErr result ((files self.new ≡ files self.old) ⊎ Becomes (files self.old) (files self.new) (with_file name.now [])) }
-        ensures cause { HasCause (write_faults self.old) (write_faults self.new) result }
-        ensures no_read { read_faults self.new ≡ read_faults self.old }
-        ensures no_miss { missing self.new ≡ missing self.old };
+        ensures { Creates name.now result (state self.old) (state self.new) };
 
     /// Adds the first bytes of a piece at the end of the file, at least one, and says how many. After an
-    /// error nothing was added. `Failed` comes only where `write_faults` rose.
+    /// error nothing was added.
     fn append(&mut self, name: &str, piece: &[u8]) -> Result<usize, Trouble>
         requires some { 0 < length piece.now }
-        requires there { IfSome (files self.old) (λ told. IsSome (told name.now)) }
-        ensures within { IfOk result (λ n. (0 < n) × (n ≤ length piece.now)) }
-        ensures added { IfOk result (λ n. Becomes (files self.old) (files self.new) (with_appended name.now (take n piece.now))) }
-        ensures err { OnErr result (files self.new ≡ files self.old) }
-        ensures cause { HasCause (write_faults self.old) (write_faults self.new) result }
-        ensures no_read { read_faults self.new ≡ read_faults self.old }
-        ensures no_miss { missing self.new ≡ missing self.old };
+        requires there { IfSome (state self.old).files (λ files. IsSome (files name.now)) }
+        ensures { AppendsTo name.now piece.now result (state self.old) (state self.new) };
 }

@@ -5,13 +5,15 @@
 //! thing, and tell nothing.
 #![tactic(auto)]
 
+mod causes;
 mod folder;
+mod host;
 mod host_folder;
 mod memory_folder;
 mod memory_sink;
 mod sink;
 mod std_sink;
-mod whole;
+mod transfer;
 
 pub use folder::{Folder, Taken, Trouble};
 pub use host_folder::HostFolder;
@@ -19,4 +21,4 @@ pub use memory_folder::{Call, MemoryFolder};
 pub use memory_sink::MemorySink;
 pub use sink::Sink;
 pub use std_sink::StdSink;
-pub use whole::{FetchFault, append_all, read_whole, say};
+pub use transfer::{FetchFault, append_all, read_whole, say};

@@ -1,8 +1,10 @@
 // A folder in memory.
-ghost use Rattle.std.specs.Prelude.{◌≡◌, ◌∷◌, ◌++◌, [], ◌≤◌, ◌<◌, ◌↔◌, ◌+◌, Some, None, Contains, IfNone, IfSome, IsSome, IsTrue, OnErr, OnOk, drop, length, take};
+ghost use Rattle.std.specs.Prelude.{◌≡◌, ◌∷◌, ◌++◌, [], ◌≤◌, ◌<◌, ◌↔◌, ◌+◌, Some, None, Contains, IfNone, IfSome, IsErrOf, IsSome, IsTrue, OnErr, OnOk, drop, length, take};
 ghost use Rattle.rv_outside.specs.Files.{with_file, with_appended};
-ghost use Rattle.rv_outside.specs.Kept.{kept_files};
+ghost use Rattle.rv_outside.specs.Folder.{ReadsAt, Creates, AppendsTo};
+ghost use Rattle.rv_outside.specs.Inner.FileMap.{files_in};
 
+use crate::causes::raise;
 use crate::{Folder, Taken, Trouble};
 use std::alloc::{AllocError, Global};
 use std::collections::BTreeMap;
@@ -31,12 +33,13 @@ pub struct MemoryFolder {
 }
 
 impl MemoryFolder {
-    ghost use Rattle.rv_outside.specs.MemoryFolder.{memory_files, failing_calls};
+    ghost use Rattle.rv_outside.specs.MemoryFolder.{memory_files, failing_calls, calls_of};
 
     /// A folder without files. It takes no memory.
     pub fn new(alloc: Global) -> MemoryFolder
         ensures empty { (name : _) → memory_files result name ≡ None }
         ensures sound { failing_calls result ≡ [] }
+        ensures fresh { (call : _) → calls_of result call ≡ 0 }
     {
         MemoryFolder {
             alloc,
@@ -57,6 +60,7 @@ impl MemoryFolder {
         ensures put { OnOk result (memory_files self.new ≡ with_file name.now bytes.now (memory_files self.old)) }
         ensures err { OnErr result (memory_files self.new ≡ memory_files self.old) }
         ensures same { failing_calls self.new ≡ failing_calls self.old }
+        ensures calls { (call : _) → calls_of self.new call ≡ calls_of self.old call }
     {
         put(self.alloc, &mut self.files, name, bytes)
     }
@@ -77,6 +81,7 @@ impl MemoryFolder {
     pub fn fail(&mut self, call: Call, n: u64) -> Result<(), AllocError>
         ensures fails { OnOk result (failing_calls self.new ≡ failing_calls self.old ++ (call, n) ∷ []) }
         ensures same { memory_files self.new ≡ memory_files self.old }
+        ensures calls { (other : _) → calls_of self.new other ≡ calls_of self.old other }
         ensures err { OnErr result (failing_calls self.new ≡ failing_calls self.old) }
     {
         self.failing.push((call, n))?;
@@ -91,8 +96,8 @@ fn put(
     name: &str,
     bytes: &[u8],
 ) -> Result<(), AllocError>
-    ensures put { OnOk result (kept_files files.new ≡ with_file name.now bytes.now (kept_files files.old)) }
-    ensures err { OnErr result (kept_files files.new ≡ kept_files files.old) }
+    ensures put { OnOk result (files_in files.new ≡ with_file name.now bytes.now (files_in files.old)) }
+    ensures err { OnErr result (files_in files.new ≡ files_in files.old) }
 {
     let name = String::from_str(alloc, name)?;
     let bytes = bytes.to_vec(alloc)?;
@@ -101,9 +106,9 @@ fn put(
 }
 
 fn grow(files: &mut BTreeMap<String, Vec<u8>>, name: &str, piece: &[u8]) -> Result<(), AllocError>
-    requires { IsSome (kept_files files.old name.now) }
-    ensures grown { OnOk result (kept_files files.new ≡ with_appended name.now piece.now (kept_files files.old)) }
-    ensures err { OnErr result (kept_files files.new ≡ kept_files files.old) }
+    requires { IsSome (files_in files.old name.now) }
+    ensures grown { OnOk result (files_in files.new ≡ with_appended name.now piece.now (files_in files.old)) }
+    ensures err { OnErr result (files_in files.new ≡ files_in files.old) }
 {
     let bytes = files.get_mut(name).unwrap();
     bytes.extend_from_slice(piece)?;
@@ -116,55 +121,56 @@ fn is_to_fail(failing: &[(Call, u64)], call: Call, count: u64) -> bool
     failing.contains(&(call, count))
 }
 
-// Copies what a file has from a place on, as far as the buffer goes.
-fn copy_piece(bytes: &[u8], at: usize, into: &mut [u8]) -> usize
+// Copies what a file has from an offset on, as far as the buffer goes.
+fn copy_piece(bytes: &[u8], offset: usize, into: &mut [u8]) -> usize
     requires some { 0 < length into.old }
-    requires there { at < length bytes.now }
-    ensures within { (0 < result) × (result ≤ length into.new) × (at + result ≤ length bytes.now) }
-    ensures copied { take result into.new ≡ take result (drop at bytes.now) }
+    requires there { offset < length bytes.now }
+    ensures within { (0 < result) × (result ≤ length into.new) × (offset + result ≤ length bytes.now) }
+    ensures copied { take result into.new ≡ take result (drop offset bytes.now) }
 {
-    let count = into.len().min(bytes.len() - at);
-    into[..count].copy_from_slice(&bytes[at..at + count]);
+    let count = into.len().min(bytes.len() - offset);
+    into[..count].copy_from_slice(&bytes[offset..offset + count]);
     count
 }
 
 impl Folder for MemoryFolder {
-    ghost use Rattle.rv_outside.specs.MemoryFolder.{memory_files};
+    ghost use Rattle.rv_outside.specs.MemoryFolder.{memory_files, memory_state, KeepsWord};
 
-    ghost files = { λ s. Some (memory_files s) };
+    ghost state = { memory_state };
 
-    ghost read_faults = { λ s. s.read_faults };
-
-    ghost write_faults = { λ s. s.write_faults };
-
-    ghost missing = { λ s. s.missing };
-
-    fn read_at(&mut self, name: &str, at: u64, into: &mut [u8]) -> Result<Taken, Trouble> {
-        self.reads = self.reads.saturating_add(1);
+    fn read_at(&mut self, name: &str, offset: u64, into: &mut [u8]) -> Result<Taken, Trouble>
+        requires { 0 < length into.old }
+        ensures reads { ReadsAt name.now offset into.new result (memory_state self.old) (memory_state self.new) }
+        ensures word { KeepsWord Call.Read (IsErrOf result Trouble.Failed) self.old self.new }
+    {
+        raise(&mut self.reads);
         if is_to_fail(&self.failing, Call::Read, self.reads) {
-            self.read_faults = self.read_faults.saturating_add(1);
+            raise(&mut self.read_faults);
             return Err(Trouble::Failed);
         }
         match self.files.get(name) {
             None => {
-                self.missing = self.missing.saturating_add(1);
+                raise(&mut self.missing);
                 Ok(Taken::Missing)
             }
             Some(bytes) => {
-                let at = at as usize;
-                if at >= bytes.len() {
+                let offset = offset as usize;
+                if offset >= bytes.len() {
                     Ok(Taken::End)
                 } else {
-                    Ok(Taken::Bytes(copy_piece(bytes, at, into)))
+                    Ok(Taken::Bytes(copy_piece(bytes, offset, into)))
                 }
             }
         }
     }
 
-    fn create(&mut self, name: &str) -> Result<(), Trouble> {
-        self.creates = self.creates.saturating_add(1);
+    fn create(&mut self, name: &str) -> Result<(), Trouble>
+        ensures creates { Creates name.now result (memory_state self.old) (memory_state self.new) }
+        ensures word { KeepsWord Call.Create (IsErrOf result Trouble.Failed) self.old self.new }
+    {
+        raise(&mut self.creates);
         if is_to_fail(&self.failing, Call::Create, self.creates) {
-            self.write_faults = self.write_faults.saturating_add(1);
+            raise(&mut self.write_faults);
             return Err(Trouble::Failed);
         }
         match put(self.alloc, &mut self.files, name, &[]) {
@@ -173,10 +179,15 @@ impl Folder for MemoryFolder {
         }
     }
 
-    fn append(&mut self, name: &str, piece: &[u8]) -> Result<usize, Trouble> {
-        self.appends = self.appends.saturating_add(1);
+    fn append(&mut self, name: &str, piece: &[u8]) -> Result<usize, Trouble>
+        requires some { 0 < length piece.now }
+        requires there { IsSome (memory_files self.old name.now) }
+        ensures appends { AppendsTo name.now piece.now result (memory_state self.old) (memory_state self.new) }
+        ensures word { KeepsWord Call.Append (IsErrOf result Trouble.Failed) self.old self.new }
+    {
+        raise(&mut self.appends);
         if is_to_fail(&self.failing, Call::Append, self.appends) {
-            self.write_faults = self.write_faults.saturating_add(1);
+            raise(&mut self.write_faults);
             return Err(Trouble::Failed);
         }
         match grow(&mut self.files, name, piece) {

@@ -1,6 +1,8 @@
 // A sink in memory.
-ghost use Rattle.std.specs.Prelude.{◌≡◌, ◌∷◌, ◌++◌, [], ℕ, Some, OnErr, OnOk};
+ghost use Rattle.std.specs.Prelude.{◌≡◌, ◌∷◌, ◌++◌, [], ◌<◌, IsErrOf, OnErr, OnOk, length};
+ghost use Rattle.rv_outside.specs.Sink.{Puts};
 
+use crate::causes::raise;
 use crate::{Sink, Trouble};
 use std::alloc::{AllocError, Global};
 
@@ -16,12 +18,13 @@ pub struct MemorySink {
 }
 
 impl MemorySink {
-    ghost use Rattle.rv_outside.specs.MemorySink.{sink_bytes, failing_puts};
+    ghost use Rattle.rv_outside.specs.MemorySink.{sink_bytes, failing_puts, puts_of};
 
     /// An empty sink. It takes no memory.
     pub fn new(alloc: Global) -> MemorySink
         ensures empty { sink_bytes result ≡ [] }
         ensures sound { failing_puts result ≡ [] }
+        ensures fresh { puts_of result ≡ 0 }
     {
         MemorySink {
             bytes: Vec::new(alloc),
@@ -44,6 +47,7 @@ impl MemorySink {
     pub fn fail(&mut self, n: u64) -> Result<(), AllocError>
         ensures fails { OnOk result (failing_puts self.new ≡ failing_puts self.old ++ n ∷ []) }
         ensures same { sink_bytes self.new ≡ sink_bytes self.old }
+        ensures calls { puts_of self.new ≡ puts_of self.old }
         ensures err { OnErr result (failing_puts self.new ≡ failing_puts self.old) }
     {
         self.failing.push(n)?;
@@ -52,22 +56,22 @@ impl MemorySink {
 }
 
 impl Sink for MemorySink {
-    ghost use Rattle.rv_outside.specs.MemorySink.{sink_bytes};
+    ghost use Rattle.rv_outside.specs.MemorySink.{memory_sink_state, KeepsWord};
 
-    ghost written = { λ s. Some (sink_bytes s) };
+    ghost state = { memory_sink_state };
 
-    ghost faults = { λ s. s.faults };
-
-    ghost wants = { λ s. s.wants };
-
-    fn put(&mut self, piece: &[u8]) -> Result<usize, Trouble> {
-        self.puts = self.puts.saturating_add(1);
+    fn put(&mut self, piece: &[u8]) -> Result<usize, Trouble>
+        requires { 0 < length piece.now }
+        ensures puts { Puts piece.now result (memory_sink_state self.old) (memory_sink_state self.new) }
+        ensures word { KeepsWord (IsErrOf result Trouble.Failed) self.old self.new }
+    {
+        raise(&mut self.puts);
         if self.failing.contains(&self.puts) {
-            self.faults = self.faults.saturating_add(1);
+            raise(&mut self.faults);
             return Err(Trouble::Failed);
         }
         if self.bytes.extend_from_slice(piece).is_err() {
-            self.wants = self.wants.saturating_add(1);
+            raise(&mut self.wants);
             return Err(Trouble::NoMemory);
         }
         Ok(piece.len())

@@ -1,6 +1,6 @@
 use Rattle.std.proofs.Common.{arith, ◌≡◌}
 use Rattle.std.proofs.lemmas.Map.Text.{text_keys}
-use Rattle.rv_outside.specs.Kept.{kept_files}
+use Rattle.rv_outside.specs.Inner.FileMap.{files_in}
 use Rattle.rv_outside.proofs.FilesLemmas.{same_files}
 use Rattle.rv_outside.proofs.memory_folder.grow.Goals as goal
 
@@ -9,5 +9,5 @@ returns-clause-grown c = same_files _ _ (λ q. grind (arith, text_keys))
 
 pub returns-in_err-extend_from_slice-clause-err : goal.returns-in_err-extend_from_slice-clause-err
 returns-in_err-extend_from_slice-clause-err c =
-    let same : kept_files (c.get_mut.follows.lender c.extend_from_slice.new.self) ≡ kept_files c.args.files.now = same_files _ _ (λ q. grind (arith, text_keys)) in
+    let same : files_in (c.get_mut.follows.lender c.extend_from_slice.new.self) ≡ files_in c.args.files.now = same_files _ _ (λ q. grind (arith, text_keys)) in
     grind (arith, same)

@@ -2,14 +2,14 @@ use Rattle.std.proofs.Common.{◌≡◌, ◌-◌, length, take, drop, rules, ari
 use Rattle.std.proofs.lemmas.Grind.{common_steps}
 use Rattle.std.proofs.Math.Seq.{take-add}
 use Rattle.rv_outside.proofs.WrittenLemmas.{adds_nothing, adds_then}
-use Rattle.rv_outside.proofs.whole.say.Goals as goal
+use Rattle.rv_outside.proofs.transfer.say.Goals as goal
 
 pub loop-done-init : goal.loop-done-init
 loop-done-init g c = record {
   within = search rules;
   said = adds_nothing _;
-  later = search rules;
-  want_later = search rules;
+  faults = search rules;
+  wants = search rules;
 }
 
 pub loop-done-preserved : goal.loop-done-preserved
@@ -22,6 +22,6 @@ loop-done-preserved g c =
     record {
       within = search rules;
       said = rw (take-add done taken text) (adds_then _ _ _ (take done text) (take taken (drop done text)) c.loop-done.invariant.said step);
-      later = search rules;
-      want_later = search rules;
+      faults = search rules;
+      wants = search rules;
     }

@@ -1,4 +1,4 @@
--- Files kept in an ordered map.
+-- Files in an ordered map.
 use Rattle.std.specs.Prelude.{ℕ, option_map}
 use Rattle.std.specs.BTreeMap.{BTreeMap, get_by_text}
 use Rattle.std.specs.declared.vec.Vec.{Vec}
@@ -7,5 +7,5 @@ use Rattle.std.specs.declared.alloc.Global.{Global}
 use Rattle.rv_outside.specs.Files.{Files}
 
 -- what each name stands for in the map
-abbrev pub kept_files : BTreeMap (String Global) (Vec ℕ Global) → Files
-kept_files files = λ name. option_map (λ v. v.items) (get_by_text files name)
+abbrev pub files_in : BTreeMap (String Global) (Vec ℕ Global) → Files
+files_in map = λ name. option_map (λ v. v.items) (get_by_text map name)
