@@ -9,7 +9,8 @@ use Rattle.rv_outside.proofs.FilesLemmas.{bytes_eq-itself, made_then}
 use Rattle.asc_grid.specs.Canonical.{canonical_text}
 use Rattle.asc_grid.specs.declared.plain.PlainAsc.{PlainAsc}
 use Rattle.std.specs.declared.result.Result.{Result}
-use Rattle.tool_run.specs.Outcome.{LeavesPart, Outcome, of_grid, of_source, outcome, sieve_outcome}
+use Rattle.tool_run.specs.Inner.Steps.{IsPartWritten}
+use Rattle.tool_run.specs.Outcome.{LeavesPart, Outcome, outcome, sieve_outcome, source_of, written_to}
 use Rattle.tool_run.specs.Status.{status_of}
 use Rattle.tool_run.specs.Words.{Text, begins_with_tool, dest_of, sieve_job_of}
 use Rattle.tool_run.specs.declared.fault.Fault.{Fault}
@@ -18,9 +19,6 @@ use Rattle.tool_run.specs.declared.words.SieveJob.{SieveJob}
 
 take_of-append : (done rest : List ℕ) → take (length done) (done ++ rest) ≡ done
 take_of-append done rest = grind (arith, common_steps)
-
-abbrev pub IsPartWritten : Option Files → Option Files → List ℕ → List ℕ → Type 0
-IsPartWritten old new name text = (new ≡ old) ⊎ ((n : ℕ) × Becomes old new (with_file name (take n text)))
 
 -- a first part of the text was written
 pub part_written : (old new : Option Files) (name text done rest : List ℕ) → text ≡ done ++ rest → Becomes old new (with_file name done) → IsPartWritten old new name text
@@ -35,18 +33,18 @@ more_written old mid new name text done piece rest n is written added =
     let parts : text ≡ (done ++ take n piece) ++ (drop n piece ++ rest) = grind (arith, common_steps, is, pieces, append_assoc) in
     part_written old new name text (done ++ take n piece) (drop n piece ++ rest) parts (made_then old mid new name done (take n piece) written added)
 
-in_part : (expected : Outcome) (dest : List ℕ) (files : Files) (grid : PlainAsc) (new : Option Files) → expected ≡ of_grid dest files (Some grid) → IsPartWritten (Some files) new dest (canonical_text grid) → LeavesPart expected dest files new
+in_part : (expected : Outcome) (dest : List ℕ) (files : Files) (grid : PlainAsc) (new : Option Files) → expected ≡ written_to dest files (Ok grid) → IsPartWritten (Some files) new dest (canonical_text grid) → LeavesPart expected dest files new
 in_part expected dest files grid new is part = rw is (elim part [
   | inl same ↦ inl same
   | inr written ↦ inr (canonical_text grid, written.0, refl, rw (bytes_eq-itself dest) refl, written.1)
 ])
 
 -- where a source with a grid was read, the destination holds a part of its text
-pub leaves_part : (old new : Option Files) (job : SieveJob) (grid : PlainAsc) → job.st ≤ 1 → IfSome old (λ files. (dest : List ℕ) → of_source dest files (files job.source) ≡ of_grid dest files (Some grid)) → IsPartWritten old new job.dest (canonical_text grid) → IfSome old (λ files. LeavesPart (sieve_outcome job files) job.dest files new)
+pub leaves_part : (old new : Option Files) (job : SieveJob) (grid : PlainAsc) → job.st ≤ 1 → IfSome old (λ files. Ok grid ≡ source_of (files job.source)) → IsPartWritten old new job.dest (canonical_text grid) → IfSome old (λ files. LeavesPart (sieve_outcome job files) job.dest files new)
 leaves_part None new job grid low read part = tt
 leaves_part (Some files) new job grid low read part =
     let built : nat_le job.st 1 ≡ true = grind (arith, nat_tests, low) in
-    let is : sieve_outcome job files ≡ of_grid job.dest files (Some grid) = rw built (read job.dest) in
+    let is : sieve_outcome job files ≡ written_to job.dest files (Ok grid) = rw (built, ← read) refl in
     in_part (sieve_outcome job files) job.dest files grid new is part
 
 -- the same of the words that have the job

@@ -1,36 +1,42 @@
 -- Lines that a sink takes in two parts.
-use Rattle.std.proofs.Common.{◌≡◌, inl, inr, ◌++◌, ◌+◌, ℕ, List, Option, Ok, Err, OnOk, OnErr, IsErrOf, length, take, drop, refl, arith}
-use Rattle.std.specs.declared.result.Result.{Result}
+use Rattle.std.proofs.Common.{◌≡◌, ◌≤◌, ◌++◌, [], ◌+◌, ℕ, List, Option, Ok, Err, IsErrOf, length, take, drop, refl, arith}
 use Rattle.std.proofs.lemmas.Grind.{common_steps}
 use Rattle.std.proofs.Math.Seq.{take-add}
-use Rattle.rv_outside.specs.Causes.{Rose}
-use Rattle.rv_outside.specs.Written.{Adds}
+use Rattle.rv_outside.specs.Causes.{Counts}
+use Rattle.rv_outside.specs.Sink.{Adds, SinkState, Says}
 use Rattle.rv_outside.specs.declared.folder.Trouble.{Trouble}
-use Rattle.rv_outside.specs.declared.folder.Trouble.TheVariants.{Failed, NoMemory}
-use Rattle.rv_outside.proofs.WrittenLemmas.{adds_then}
-use Rattle.tool_run.specs.Told.{Told}
-
-take_of-whole : (line : List ℕ) → take (length line) line ≡ line
-take_of-whole line = grind (arith, common_steps)
+use Rattle.rv_outside.proofs.WrittenLemmas.{adds_nothing, adds_then}
+use Rattle.tool_run.specs.Message.{SaysLine}
 
 -- all of the first part, and some of the second
-pub adds_second : (before mid now : Option (List ℕ)) (first second : List ℕ) (n : ℕ) → Adds before mid first → Adds mid now (take n second) → (m : ℕ) × Adds before now (take m (first ++ second))
-adds_second before mid now first second n one two =
+adds_second : (before mid now : Option (List ℕ)) (first second : List ℕ) (n : ℕ) → n ≤ length second → Adds before mid first → Adds mid now (take n second) → (m : ℕ) × (m ≤ length (first ++ second)) × Adds before now (take m (first ++ second))
+adds_second before mid now first second n le one two =
     let front : take (length first) (first ++ second) ≡ first = grind (arith, common_steps) in
     let back : drop (length first) (first ++ second) ≡ second = grind (arith, common_steps) in
     let parts : take (length first + n) (first ++ second) ≡ first ++ take n second = rw (take-add (length first) n (first ++ second), front, back) refl in
-    (length first + n, rw parts (adds_then before mid now first (take n second) one two))
+    (length first + n, grind (arith, common_steps), rw parts (adds_then before mid now first (take n second) one two))
 
-pub told : (before now : Option (List ℕ)) (f f' w w' : ℕ) (line : List ℕ) (r : Result (Unit {0}) Trouble) → OnOk r (Adds before now line) → OnErr r ((n : ℕ) × Adds before now (take n line)) → (IsErrOf r Failed → Rose f f') → (IsErrOf r NoMemory → Rose w w') → Told before now f f' w w' line
-told before now f f' w w' line (Ok x) ok err failed want = record {
-  part = (length line, rw (take_of-whole line) ok);
-  whole = inl ok;
+counts_on : {P : Type 0} (before mid now : ℕ) → mid ≡ before → Counts P mid now → Counts P before now
+counts_on before mid now same counts = rw same at counts
+
+-- the first part was taken, and the second cut off
+pub says_second : (first second : List ℕ) (trouble : Trouble) (old mid new : SinkState) → Says first (Ok tt) old mid → Says second (Err trouble) mid new → Says (first ++ second) (Err trouble) old new
+says_second first second trouble old mid new one two = record {
+  said = tt;
+  part = adds_second old.written mid.written new.written first second two.part.0 two.part.1 one.said two.part.2;
+  leaves = record {
+    faults = counts_on _ _ _ (one.leaves.faults.stood (λ no. cc no)) two.leaves.faults;
+    wants = counts_on _ _ _ (one.leaves.wants.stood (λ no. cc no)) two.leaves.wants;
+  };
 }
-told before now f f' w w' line (Err Failed) ok err failed want = record {
-  part = err;
-  whole = inr (inl (failed refl));
-}
-told before now f f' w w' line (Err NoMemory) ok err failed want = record {
-  part = err;
-  whole = inr (inr (want refl));
-}
+
+-- an empty line is handed over by doing nothing
+pub says_nothing : (state : SinkState) → SaysLine [] state state
+says_nothing state = (Ok tt, record {
+  said = adds_nothing state.written;
+  part = tt;
+  leaves = record {
+    faults = record { rose = λ no. absurd (cc no); stood = λ _. refl; later = omega arith };
+    wants = record { rose = λ no. absurd (cc no); stood = λ _. refl; later = omega arith };
+  };
+})

@@ -1,13 +1,13 @@
 -- What a lower call's refusal is to a tool.
 use Rattle.rv_outside.specs.declared.folder.Trouble.{Trouble}
 use Rattle.rv_outside.specs.declared.folder.Trouble.TheVariants as trouble
-use Rattle.rv_outside.specs.declared.whole.FetchFault.{FetchFault}
-use Rattle.rv_outside.specs.declared.whole.FetchFault.TheVariants as fetch
+use Rattle.rv_outside.specs.declared.transfer.FetchFault.{FetchFault}
+use Rattle.rv_outside.specs.declared.transfer.FetchFault.TheVariants as fetch
 use Rattle.tool_run.specs.declared.fault.Role.TheVariants.{Source, Mask}
 use Rattle.tool_run.specs.declared.fault.Fault.{Fault}
-use Rattle.tool_run.specs.declared.fault.Fault.TheVariants.{Missing, ReadFault, WriteFault, NotBuilt, NoMemory}
+use Rattle.tool_run.specs.declared.fault.Fault.TheVariants.{Missing, ReadFault, WriteFault, NoMemory}
 
--- the fault of a source that could not be read whole
+-- the fault of a source that could not be read
 abbrev pub of_fetch : FetchFault → Fault
 of_fetch fetch.Missing = Missing Source
 of_fetch fetch.Fault = ReadFault Source
@@ -17,20 +17,6 @@ of_fetch fetch.NoMemory = NoMemory
 abbrev pub of_write : Trouble → Fault
 of_write trouble.Failed = WriteFault
 of_write trouble.NoMemory = NoMemory
-
--- a fault that a source can have
-abbrev pub IsSourceFault : Fault → Type 0
-IsSourceFault (Missing Source) = Unit {0}
-IsSourceFault (ReadFault Source) = Unit {0}
-IsSourceFault NotBuilt = Unit {0}
-IsSourceFault NoMemory = Unit {0}
-IsSourceFault fault = ⊥
-
--- a fault that a destination can have
-abbrev pub IsWriteFault : Fault → Type 0
-IsWriteFault WriteFault = Unit {0}
-IsWriteFault NoMemory = Unit {0}
-IsWriteFault fault = ⊥
 
 -- a fault that a sieve can have, which reads no mask yet
 abbrev pub IsSieveFault : Fault → Type 0

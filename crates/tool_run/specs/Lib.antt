@@ -1,7 +1,7 @@
+pub mod Causes
 pub mod Fault
+pub mod Inner
 pub mod Message
 pub mod Outcome
 pub mod Status
 pub mod Words
-pub mod WordsFault
-pub mod Told

@@ -1,5 +1,8 @@
 -- The line that a run writes to standard error. Source: this project's own.
 use Rattle.std.specs.Prelude.{ℕ, List, [], ◌∷◌, ◌++◌, Option, Some, None, codes}
+use Rattle.std.specs.declared.result.Result.{Result}
+use Rattle.rv_outside.specs.Sink.{SinkState, Says}
+use Rattle.rv_outside.specs.declared.folder.Trouble.{Trouble}
 use Rattle.tool_run.specs.Words.{Text, sieve_job_of}
 use Rattle.tool_run.specs.declared.words.SieveJob.{SieveJob}
 use Rattle.tool_run.specs.declared.read_words.WordsFault.{WordsFault}
@@ -38,3 +41,7 @@ line_of (Some job) status = line_of_job job status
 abbrev pub message : List Text → Status → List ℕ
 message words Usage = usage_line words
 message words status = line_of (sieve_job_of words) status
+
+-- the line was handed to the sink, whatever the sink answered
+abbrev pub SaysLine : List ℕ → SinkState → SinkState → Type 0
+SaysLine line old new = (answer : Result (Unit {0}) Trouble) × Says line answer old new

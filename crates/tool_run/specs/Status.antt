@@ -5,8 +5,6 @@ use Rattle.tool_run.specs.declared.status.Status.{Status}
 use Rattle.tool_run.specs.declared.status.Status.TheVariants.{Done, Usage, BadInput, Missing, ReadFault, WriteFault, NoMemory, TooLarge, NotBuilt}
 use Rattle.tool_run.specs.declared.fault.Fault.{Fault}
 use Rattle.tool_run.specs.declared.fault.Fault.TheVariants as fault
-use Rattle.tool_run.specs.declared.read_words.WordsFault.{WordsFault}
-use Rattle.tool_run.specs.declared.read_words.WordsFault.TheVariants as words
 
 -- the number that the program ends with
 abbrev pub number_of : Status → ℕ
@@ -28,8 +26,8 @@ status_of_fault fault.WriteFault = WriteFault
 status_of_fault fault.NotBuilt = NotBuilt
 status_of_fault fault.NoMemory = NoMemory
 
--- the status of a tool's answer
-abbrev pub status_of : Result (Unit {0}) Fault → Status
+-- the status of an answer
+abbrev pub status_of : {A : Type 0} → Result A Fault → Status
 status_of (Ok _) = Done
 status_of (Err fault) = status_of_fault fault
 
@@ -39,10 +37,3 @@ IsDecided ReadFault = ⊥
 IsDecided WriteFault = ⊥
 IsDecided NoMemory = ⊥
 IsDecided status = Unit {0}
-
--- the status of refused words
-abbrev pub status_of_words : WordsFault → Status
-status_of_words words.NoTool = Usage
-status_of_words words.UnknownTool = Usage
-status_of_words words.NotBuilt = NotBuilt
-status_of_words words.NoMemory = NoMemory

@@ -25,10 +25,14 @@ abbrev pub is_sieve_form : Text → Text → Text → Text → Text → Bool
 is_sieve_form tool option threshold source dest =
     bytes_eq tool (codes "gdal_sieve") && bytes_eq option (codes "-st") && bytes_eq threshold (codes "1") && not (is_option source) && not (is_option dest)
 
+-- the job of sieving with a threshold of 1, between cells that share a side
+abbrev pub plain_sieve : Text → Text → SieveJob
+plain_sieve source dest = record { source = source; dest = dest; st = 1; eight = false; mask = Nodata }
+
 -- the job of the words `gdal_sieve -st 1 SOURCE DESTINATION`, if the words are these
 abbrev pub sieve_job_of : List Text → Option SieveJob
 sieve_job_of (tool ∷ option ∷ threshold ∷ source ∷ dest ∷ []) =
-    if is_sieve_form tool option threshold source dest then Some (record { source = source; dest = dest; st = 1; eight = false; mask = Nodata }) else None
+    if is_sieve_form tool option threshold source dest then Some (plain_sieve source dest) else None
 sieve_job_of words = None
 
 -- the destination of the words, where they have a job

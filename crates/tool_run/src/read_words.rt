@@ -1,7 +1,7 @@
 // Reading the words' form by hand, until the words of all tools are read.
 ghost use Rattle.std.specs.Prelude.{◌≡◌, true, false, IfErr, IfOk, Some, option_map};
-ghost use Rattle.tool_run.specs.Words.{begins_with_tool, is_option, is_tool, is_sieve_form, sieve_job_of};
-ghost use Rattle.tool_run.specs.WordsFault.{IsRefused};
+ghost use Rattle.tool_run.specs.Words.{begins_with_tool, is_option, is_tool, is_sieve_form, plain_sieve, sieve_job_of};
+ghost use Rattle.tool_run.specs.Inner.Refused.{IsRefused};
 
 use crate::{MaskFrom, Name, SieveJob, Words};
 use std::alloc::{AllocError, Global};
@@ -54,7 +54,7 @@ fn is_sieve_form(tool: &str, option: &str, threshold: &str, source: &str, dest: 
 
 // The source's and the destination's name, if the words are `gdal_sieve -st 1 SOURCE DESTINATION`.
 fn sieve_names(words: &Words) -> Option<(&str, &str)>
-    ensures { sieve_job_of words.now ≡ option_map (λ names. record { source = names.0.now; dest = names.1.now; st = 1; eight = false; mask = MaskFrom.Nodata }) result }
+    ensures { sieve_job_of words.now ≡ option_map (λ names. plain_sieve names.0.now names.1.now) result }
 {
     if words.len() != 5 {
         return None;

@@ -1,11 +1,13 @@
 // The tool gdal_sieve.
-ghost use Rattle.std.specs.Prelude.{◌≡◌, ◌⊎◌, ◌≤◌, ◌<◌, ◌≢◌, ℕ, Some, None, IfErr, IfOk, IfSome, IsErrOf, OnErr, OnOk, take};
-ghost use Rattle.rv_outside.specs.Causes.{Rose};
+ghost use Rattle.std.specs.Prelude.{◌≡◌, ◌<◌, Err, IfErr, IfSome, IsErrOf, OnErr, OnOk};
 ghost use Rattle.rv_outside.specs.Files.{Becomes, with_file};
+ghost use Rattle.rv_outside.specs.Folder.{OnlyReads, OnlyWrites};
 ghost use Rattle.asc_grid.specs.Canonical.{canonical_text};
-ghost use Rattle.tool_run.specs.Fault.{IsSieveFault, IsSourceFault, IsWriteFault};
-ghost use Rattle.tool_run.specs.Outcome.{IsDone, LeavesPart, Meets, of_grid, of_source, refusal, sieve_outcome};
-ghost use Rattle.tool_run.specs.Status.{IsDecided, status_of, status_of_fault};
+ghost use Rattle.tool_run.specs.Causes.{HasCauses};
+ghost use Rattle.tool_run.specs.Fault.{IsSieveFault};
+ghost use Rattle.tool_run.specs.Inner.Steps.{IsPartWritten, IsSourceFault, IsWriteFault};
+ghost use Rattle.tool_run.specs.Outcome.{IsDone, LeavesPart, Meets, sieve_outcome, source_of};
+ghost use Rattle.tool_run.specs.Status.{IsDecided, status_of};
 
 use crate::{Fault, Role, SieveJob};
 use asc_grid::{PlainAsc, PlainText, read_plain};
@@ -14,15 +16,10 @@ use std::alloc::Global;
 
 // The plain grid of the source, whose text is let go again.
 fn read_source<F: Folder>(alloc: Global, folder: &mut F, name: &str) -> Result<PlainAsc, Fault>
-    ensures grid { IfOk result (λ grid. IfSome (F.files folder.old) (λ files. (dest : _) → of_source dest files (files name.now) ≡ of_grid dest files (Some grid))) }
-    ensures refused { IfErr result (λ fault. IsDecided (status_of_fault fault) → IfSome (F.files folder.old) (λ files. (dest : _) → of_source dest files (files name.now) ≡ refusal (status_of_fault fault) files)) }
+    ensures source { IsDecided (status_of result) → IfSome (F.state folder.old).files (λ files. result ≡ source_of (files name.now)) }
     ensures kind { IfErr result IsSourceFault }
-    ensures missing { IsErrOf result (Fault.Missing Role.Source) → Rose (F.missing folder.old) (F.missing folder.new) }
-    ensures read_fault { IsErrOf result (Fault.ReadFault Role.Source) → Rose (F.read_faults folder.old) (F.read_faults folder.new) }
-    ensures same { F.files folder.new ≡ F.files folder.old }
-    ensures read_later { F.read_faults folder.old ≤ F.read_faults folder.new }
-    ensures missing_later { F.missing folder.old ≤ F.missing folder.new }
-    ensures no_write { F.write_faults folder.new ≡ F.write_faults folder.old }
+    ensures leaves { OnlyReads (IsErrOf result (Fault.ReadFault Role.Source)) (IsErrOf result (Fault.Missing Role.Source))
+        (F.state folder.old) (F.state folder.new) }
 {
     let text = read_whole(alloc, folder, name)?;
     match read_plain(alloc, &text)? {
@@ -38,13 +35,10 @@ fn write_dest<F: Folder>(
     name: &str,
     grid: &PlainAsc,
 ) -> Result<(), Fault>
-    ensures ok { OnOk result (Becomes (F.files folder.old) (F.files folder.new) (with_file name.now (canonical_text grid.now))) }
-    ensures err { OnErr result ((F.files folder.new ≡ F.files folder.old) ⊎ ((n : ℕ) × Becomes (F.files folder.old) (F.files folder.new) (with_file name.now (take n (canonical_text grid.now))))) }
+    ensures ok { OnOk result (Becomes (F.state folder.old).files (F.state folder.new).files (with_file name.now (canonical_text grid.now))) }
+    ensures part { OnErr result (IsPartWritten (F.state folder.old).files (F.state folder.new).files name.now (canonical_text grid.now)) }
     ensures kind { IfErr result IsWriteFault }
-    ensures write_fault { IsErrOf result Fault.WriteFault → Rose (F.write_faults folder.old) (F.write_faults folder.new) }
-    ensures later { F.write_faults folder.old ≤ F.write_faults folder.new }
-    ensures no_read { F.read_faults folder.new ≡ F.read_faults folder.old }
-    ensures no_miss { F.missing folder.new ≡ F.missing folder.old }
+    ensures leaves { OnlyWrites (IsErrOf result Fault.WriteFault) (F.state folder.old) (F.state folder.new) }
 {
     folder.create(name)?;
     let mut text = PlainText::of(alloc, grid);
@@ -59,19 +53,21 @@ fn write_dest<F: Folder>(
 /// each cell keep its value.
 ///
 /// A fault leaves the files as they were, or, where the job would have been done, a first part of the
-/// destination's bytes. `NotBuilt` comes where the threshold is above 1 or the source isn't a plain grid.
+/// destination's bytes. `NotBuilt` comes where the threshold is above 1, with the folder as it was, or the
+/// source isn't a plain grid.
 pub fn sieve_tool<F: Folder>(alloc: Global, job: &SieveJob, folder: &mut F) -> Result<(), Fault>
-    ensures outcome { IsDecided (status_of result) → IfSome (F.files folder.old) (λ files. Meets (sieve_outcome job.now files) (status_of result) (F.files folder.new)) }
-    ensures part { OnErr result (IfSome (F.files folder.old) (λ files. LeavesPart (sieve_outcome job.now files) job.now.dest files (F.files folder.new))) }
+    ensures outcome { IsDecided (status_of result) → IfSome (F.state folder.old).files
+        (λ files. Meets (sieve_outcome job.now files) (status_of result) (F.state folder.new).files) }
+    ensures part { OnErr result (IfSome (F.state folder.old).files
+        (λ files. LeavesPart (sieve_outcome job.now files) job.now.dest files (F.state folder.new).files)) }
     ensures source_alone { IfErr result IsSieveFault }
     ensures not_built { 1 < job.now.st → result ≡ Err Fault.NotBuilt }
+    ensures untouched { 1 < job.now.st → folder.new ≡ folder.old }
 
-    // Each fault of the outside has its cause.
-    ensures missing { IsErrOf result (Fault.Missing Role.Source) → Rose (F.missing folder.old) (F.missing folder.new) }
-    ensures read_fault { IsErrOf result (Fault.ReadFault Role.Source) → Rose (F.read_faults folder.old) (F.read_faults folder.new) }
-    ensures read_same { IsErrOf result (Fault.ReadFault Role.Source) → F.files folder.new ≡ F.files folder.old }
-    ensures write_fault { IsErrOf result Fault.WriteFault → Rose (F.write_faults folder.old) (F.write_faults folder.new) }
-    ensures write_done { IsErrOf result Fault.WriteFault → IfSome (F.files folder.old) (λ files. IsDone (sieve_outcome job.now files)) }
+    // Each fault of the folder has its cause, and no call that failed is passed over.
+    ensures causes { HasCauses (status_of result) (F.state folder.old) (F.state folder.new) }
+    ensures read_same { IsErrOf result (Fault.ReadFault Role.Source) → (F.state folder.new).files ≡ (F.state folder.old).files }
+    ensures write_done { IsErrOf result Fault.WriteFault → IfSome (F.state folder.old).files (λ files. IsDone (sieve_outcome job.now files)) }
 {
     if job.st > 1 {
         return Err(Fault::NotBuilt);

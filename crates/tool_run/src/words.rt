@@ -47,7 +47,7 @@ impl Words {
         self.items.len()
     }
 
-    /// A word by its place, counted from 0; none exactly where the place isn't below the length.
+    /// The i-th word, counted from 0; none exactly where there are not so many.
     pub fn get(&self, i: usize) -> Option<&str>
         ensures { option_copied result ≡ slice_get self.now i }
     {

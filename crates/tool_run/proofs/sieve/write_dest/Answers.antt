@@ -4,9 +4,8 @@ use Rattle.rv_outside.proofs.FilesLemmas.{made_then}
 use Rattle.tool_run.proofs.DestLemmas.{part_written, more_written}
 use Rattle.tool_run.proofs.sieve.write_dest.Goals as goal
 
-pub returns-in_err-next-clause-err : goal.returns-in_err-next-clause-err
-returns-in_err-next-clause-err g c =
-    let F = g.F.Folder in
+pub returns-in_err-next-clause-part : goal.returns-in_err-next-clause-part
+returns-in_err-next-clause-part g c =
     let inv = c.loop-piece.invariant.written in
     let part = part_written _ _ c.args.name.now (canonical_text c.args.grid.now) inv.0 c.loop-piece.text inv.1 inv.2 in
     grind (arith, part)
@@ -18,16 +17,16 @@ loop-piece-preserved g c =
     let left : c.loop-piece.text ≡ piece ++ c.next.new.self = c.in_ok-next.ensures.ok in
     record {
       written = (inv.written.0 ++ piece, inv.written.1 ∙ ap (λ xs. inv.written.0 ++ xs) left ∙ sym (append_assoc inv.written.0 piece c.next.new.self), made_then _ _ _ c.args.name.now inv.written.0 piece inv.written.2 (rw c.deref.ensures.value at c.in_ok-append_all.ensures.added));
-      later = search rules;
-      no_read = search rules;
-      no_miss = search rules;
+      write_faults = search rules;
+      read_faults = search rules;
+      missing = search rules;
     }
 
-pub returns-in_err-append_all-clause-err : goal.returns-in_err-append_all-clause-err
-returns-in_err-append_all-clause-err g c =
+pub returns-in_err-append_all-clause-part : goal.returns-in_err-append_all-clause-part
+returns-in_err-append_all-clause-part g c =
     let inv = c.loop-piece.invariant.written in
     let piece = c.next.new.piece.items in
     let left : c.loop-piece.text ≡ piece ++ c.next.new.self = c.in_ok-next.ensures.ok in
-    let err = rw c.deref.ensures.value at c.in_err-append_all.ensures.err in
+    let err = rw c.deref.ensures.value at c.in_err-append_all.ensures.part in
     let part = more_written _ _ _ c.args.name.now (canonical_text c.args.grid.now) inv.0 piece c.next.new.self err.0 (inv.1 ∙ ap (λ xs. inv.0 ++ xs) left) inv.2 err.2 in
     grind (arith, part)

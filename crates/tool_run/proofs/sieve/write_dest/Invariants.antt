@@ -6,12 +6,12 @@ use Rattle.tool_run.proofs.sieve.write_dest.Given as goal
 -- the destination holds what is not left of the text
 abbrev pub invariant-loop-piece : goal.invariant-loop-piece
 invariant-loop-piece g l =
-    let F = g.F.Folder in
+    let state = g.F.Folder.state in
     record {
-      written : (done : List ℕ) × (canonical_text l.grid ≡ done ++ l.text) × Becomes (F.files l.fn.folder) (F.files l.folder) (with_file l.name done);
-      later : F.write_faults l.fn.folder ≤ F.write_faults l.folder;
-      no_read : F.read_faults l.folder ≡ F.read_faults l.fn.folder;
-      no_miss : F.missing l.folder ≡ F.missing l.fn.folder;
+      written : (done : List ℕ) × (canonical_text l.grid ≡ done ++ l.text) × Becomes (state l.fn.folder).files (state l.folder).files (with_file l.name done);
+      write_faults : (state l.folder).write_faults ≡ (state l.fn.folder).write_faults;
+      read_faults : (state l.folder).read_faults ≡ (state l.fn.folder).read_faults;
+      missing : (state l.folder).missing ≡ (state l.fn.folder).missing;
     }
 
 -- each piece has a byte
