@@ -6,6 +6,9 @@ use Rattle.std.proofs.Math.Nat.{one-le-pow, div-div-eq-div-mul, mul-div_cancel_l
 use Rattle.std.proofs.lemmas.Nat.{pow-add, div-add-mod', mod-mul-add}
 use Rattle.std.proofs.lemmas.List.{take_all, drop_all, take_min, drop_min}
 use Rattle.std.proofs.lemmas.Bool.{cases_lt}
+use Rattle.fixed_coord.specs.Number.{Parts, fraction_of}
+use Rattle.fixed_coord.specs.Inner.Cut.{CutsDigits, IsCut, cap}
+use Rattle.fixed_coord.specs.Inner.Spelled.{IsSpelled}
 use Rattle.fixed_coord.proofs.DigitLemmas.{cuts_off, CutsOff, after_append, digits_append}
 
 pub pow10_pos : (k : ℕ) → 0 < 10 ^ k
@@ -82,9 +85,9 @@ moves_down ds up down digits more =
 pub moves : (ds : List ℕ) (up down : ℕ) → AllDigits 10 ds → Moves ds up down
 moves ds up down digits = elim (cases_lt up down) [ inl more ↦ moves_down ds up down digits more | inr less ↦ moves_up ds up down less ]
 
--- held numbers: what is past the end stays past it
-pub held_more : (n d end : ℕ) → 0 < end → min (min n end * 10 + d) end ≡ min (n * 10 + d) end
-held_more n d end some = omega arith
+-- capped numbers: what is past the end stays past it
+pub capped_more : (n d end : ℕ) → 0 < end → min (min n end * 10 + d) end ≡ min (n * 10 + d) end
+capped_more n d end some = omega arith
 
 past_far : (n count end : ℕ) → 0 < n → end ≤ 10 ^ 33 → 33 ≤ count → end ≤ n * 10 ^ count
 past_far n count end some small far =
@@ -101,8 +104,8 @@ both_past : (x y end : ℕ) → end ≤ x → end ≤ y → min x end ≡ min y 
 both_past x y end a b = omega arith
 
 -- a number, and then zeros: more than 33 of them say no more than 33
-pub held_times : (n count end : ℕ) → 0 < end → end ≤ 10 ^ 33 → min (min n end * 10 ^ min count 33) end ≡ min (n * 10 ^ count) end
-held_times n count end some small =
+pub capped_times : (n count end : ℕ) → 0 < end → end ≤ 10 ^ 33 → min (min n end * 10 ^ min count 33) end ≡ min (n * 10 ^ count) end
+capped_times n count end some small =
     elim (cases_lt 0 n) [
       | inl more ↦
           elim (cases_lt count 33) [
@@ -112,40 +115,40 @@ held_times n count end some small =
                 ∙ elim (cases_lt n end) [
                   | inl inside ↦ (let same : min n end ≡ n = omega arith in ap (λ x. min (x * 10 ^ count) end) same)
                   | inr past ↦
-                      (let held : min n end ≡ end = omega arith in
+                      (let capped : min n end ≡ end = omega arith in
                       both_past (min n end * 10 ^ count) (n * 10 ^ count) end
                       (past_near (min n end) end (10 ^ count) (pow10_pos count) (omega arith))
                       (past_near n end (10 ^ count) (pow10_pos count) past))
                 ])
             | inr far ↦
                 (let all : min count 33 ≡ 33 = omega arith in
-                let held : 0 < min n end = omega arith in
+                let capped : 0 < min n end = omega arith in
                 ap (λ k. min (min n end * 10 ^ k) end) all
-                ∙ both_past (min n end * 10 ^ 33) (n * 10 ^ count) end (past_far (min n end) 33 end held small (omega arith)) (past_far n count end more small far))
+                ∙ both_past (min n end * 10 ^ 33) (n * 10 ^ count) end (past_far (min n end) 33 end capped small (omega arith)) (past_far n count end more small far))
           ]
       | inr none ↦ (let zero1 : n ≡ 0 = omega arith in let zero2 : min n end ≡ 0 = omega arith in omega (arith, ap (λ x. x * 10 ^ min count 33) zero2, ap (λ x. x * 10 ^ count) zero1))
     ]
 
--- held digits behind held digits
-pub held_after : (n : ℕ) (ds : List ℕ) (end : ℕ) → 0 < end → min (digits_value_after 10 (min n end) ds) end ≡ min (digits_value_after 10 n ds) end
-held_after n [] end some = omega arith
-held_after n (d ∷ ds) end some =
-    sym (held_after (min n end * 10 + digit_value d) ds end some)
-    ∙ ap (λ x. min (digits_value_after 10 x ds) end) (held_more n (digit_value d) end some)
-    ∙ held_after (n * 10 + digit_value d) ds end some
+-- capped digits behind capped digits
+pub capped_after : (n : ℕ) (ds : List ℕ) (end : ℕ) → 0 < end → min (digits_value_after 10 (min n end) ds) end ≡ min (digits_value_after 10 n ds) end
+capped_after n [] end some = omega arith
+capped_after n (d ∷ ds) end some =
+    sym (capped_after (min n end * 10 + digit_value d) ds end some)
+    ∙ ap (λ x. min (digits_value_after 10 x ds) end) (capped_more n (digit_value d) end some)
+    ∙ capped_after (n * 10 + digit_value d) ds end some
 
 -- the same answer from any two counts of zeros that are one up to 33
-pub held_same : (n a b end : ℕ) → 0 < end → end ≤ 10 ^ 33 → min a 33 ≡ min b 33 → min (n * 10 ^ a) end ≡ min (n * 10 ^ b) end
-held_same n a b end some small same =
-    sym (held_times n a end some small) ∙ ap (λ k. min (min n end * 10 ^ k) end) same ∙ held_times n b end some small
+pub capped_same : (n a b end : ℕ) → 0 < end → end ≤ 10 ^ 33 → min a 33 ≡ min b 33 → min (n * 10 ^ a) end ≡ min (n * 10 ^ b) end
+capped_same n a b end some small same =
+    sym (capped_times n a end some small) ∙ ap (λ k. min (min n end * 10 ^ k) end) same ∙ capped_times n b end some small
 
 pub both_spelled : (a b : List ℕ) (r s end : ℕ) → 0 < end → r ≡ min (digits_value_after 10 0 a) end → s ≡ min (digits_value_after 10 r b) end → s ≡ min (digits_value 10 (a ++ b)) end
 both_spelled a b r s end some first second =
-    second ∙ ap (λ x. min (digits_value_after 10 x b) end) first ∙ held_after (digits_value 10 a) b end some ∙ ap (λ x. min x end) (sym (after_append 0 a b))
+    second ∙ ap (λ x. min (digits_value_after 10 x b) end) first ∙ capped_after (digits_value 10 a) b end some ∙ ap (λ x. min x end) (sym (after_append 0 a b))
 
 pub zeros_behind : (r s z v count end : ℕ) → 0 < end → end ≤ 10 ^ 33 → r ≡ min (s * 10 ^ z) end → s ≡ min v end → z ≡ min count 33 → r ≡ min (v * 10 ^ count) end
 zeros_behind r s z v count end some small whole front zeros =
-    whole ∙ ap (λ x. min (x * 10 ^ z) end) front ∙ ap (λ k. min (min v end * 10 ^ k) end) zeros ∙ held_times v count end some small
+    whole ∙ ap (λ x. min (x * 10 ^ z) end) front ∙ ap (λ k. min (min v end * 10 ^ k) end) zeros ∙ capped_times v count end some small
 
 ten_more : (n p end : ℕ) → 0 < end → min (min (n * p) end * 10) end ≡ min (n * (p * 10)) end
 ten_more n p end some = omega arith
@@ -154,15 +157,15 @@ pub one_zero_more : (n k size r end : ℕ) → 0 < end → size ≡ min (n * 10 
 one_zero_more n k size r end some before after =
     after ∙ ap (λ x. min (x * 10) end) before ∙ ten_more n (10 ^ k) end some ∙ ap (λ x. min (n * x) end) (sym (pow-add 10 k 1))
 
--- an exponent held at 10^32 keeps the answer
+-- an exponent capped at 10^32 keeps the answer
 pub record Decides (length_digits kept count : ℕ) : Type 0 where
   pub inside : min kept length_digits ≡ min count length_digits
   pub zeros : min (kept - length_digits) 33 ≡ min (count - length_digits) 33
 
 -- the front and the back, from any count that decides the same
 pub record CutAt (ds : List ℕ) (up down count : ℕ) : Type 0 where
-  pub front : min (digits_value 10 (take count ds) * 10 ^ (count - length ds)) (10 ^ 32) ≡ min (digits_value 10 ds * 10 ^ up / 10 ^ down) (10 ^ 32)
-  pub behind : (min (digits_value 10 (drop count ds)) (10 ^ 32) ≡ 0) ↔ ((digits_value 10 ds * 10 ^ up) % 10 ^ down ≡ 0)
+  pub front : min (digits_value 10 (take count ds) * 10 ^ (count - length ds)) cap ≡ min (digits_value 10 ds * 10 ^ up / 10 ^ down) cap
+  pub behind : (min (digits_value 10 (drop count ds)) cap ≡ 0) ↔ ((digits_value 10 ds * 10 ^ up) % 10 ^ down ≡ 0)
 
 pub cut_at : (ds : List ℕ) (up down count : ℕ) → AllDigits 10 ds → Decides (length ds) (kept ds up down) count → CutAt ds up down count
 cut_at ds up down count digits same =
@@ -172,25 +175,20 @@ cut_at ds up down count digits same =
     let value : digits_value 10 (drop count ds) ≡ digits_value 10 (drop (kept ds up down) ds) = ap (digits_value 10) back in
     record {
       front =
-          ap (λ (l : List ℕ). min (digits_value 10 l * 10 ^ (count - length ds)) (10 ^ 32)) front
-          ∙ held_same (digits_value 10 (take (kept ds up down) ds)) (count - length ds) (kept ds up down - length ds) (10 ^ 32) (omega arith) (omega arith) (sym same.zeros)
-          ∙ ap (λ x. min x (10 ^ 32)) (sym m.front);
+          ap (λ (l : List ℕ). min (digits_value 10 l * 10 ^ (count - length ds)) cap) front
+          ∙ capped_same (digits_value 10 (take (kept ds up down) ds)) (count - length ds) (kept ds up down - length ds) cap (omega arith) (omega arith) (sym same.zeros)
+          ∙ ap (λ x. min x cap) (sym m.front);
       behind = (λ z. m.back.0 (omega (arith, z, value)), λ z. (let none : digits_value 10 (drop (kept ds up down) ds) ≡ 0 = m.back.1 z in omega (arith, none, value)));
     }
 
--- what stands in front of the point and behind it, after a move of it by an exponent
-pub record IsCut (whole fraction : List ℕ) (down : Bool) (power places front behind : ℕ) : Type 0 where
-  pub in_front : front ≡ min (digits_value 10 (whole ++ fraction) * 10 ^ (if down then 0 else power) * 10 ^ places / 10 ^ (length fraction + (if down then power else 0))) (10 ^ 32)
-  pub left : (behind ≡ 0) ↔ ((digits_value 10 (whole ++ fraction) * 10 ^ (if down then 0 else power) * 10 ^ places) % 10 ^ (length fraction + (if down then power else 0)) ≡ 0)
-
 -- the count of digits in front of the point
 abbrev pub count_in_front : List ℕ → ℕ → Bool → ℕ → ℕ
-count_in_front whole places down held = if down then length whole + places - held else length whole + places + held
+count_in_front whole places down capped = if down then length whole + places - capped else length whole + places + capped
 
-decides : (w f : List ℕ) (down : Bool) (power held places : ℕ) → held ≡ min power (10 ^ 32) → length w + length f < 2 ^ 65 → places ≤ 11
-    → Decides (length (w ++ f)) (kept (w ++ f) (places + (if down then 0 else power)) (length f + (if down then power else 0))) (count_in_front w places down held)
-decides w f true power held places e small few = record { inside = omega (arith, length-append w f); zeros = omega (arith, length-append w f) }
-decides w f false power held places e small few = record { inside = omega (arith, length-append w f); zeros = omega (arith, length-append w f) }
+decides : (w f : List ℕ) (down : Bool) (power capped places : ℕ) → capped ≡ min power cap → length w + length f < 2 ^ 65 → places ≤ 11
+    → Decides (length (w ++ f)) (kept (w ++ f) (places + (if down then 0 else power)) (length f + (if down then power else 0))) (count_in_front w places down capped)
+decides w f true power capped places e small few = record { inside = omega (arith, length-append w f); zeros = omega (arith, length-append w f) }
+decides w f false power capped places e small few = record { inside = omega (arith, length-append w f); zeros = omega (arith, length-append w f) }
 
 regroup : (n x y : ℕ) → n * x * y ≡ n * (y * x)
 regroup n x y = omega arith
@@ -198,23 +196,24 @@ regroup n x y = omega arith
 move_again : (n a b : ℕ) → n * 10 ^ a * 10 ^ b ≡ n * 10 ^ (b + a)
 move_again n a b = regroup n (10 ^ a) (10 ^ b) ∙ ap (λ x. n * x) (sym (pow-add 10 b a))
 
-pub is_cut : (w f : List ℕ) (down : Bool) (power held places count front behind : ℕ) → AllDigits 10 w → AllDigits 10 f → held ≡ min power (10 ^ 32) → length w + length f < 2 ^ 65 → places ≤ 11
-    → count ≡ count_in_front w places down held
-    → front ≡ min (digits_value 10 (take count (w ++ f)) * 10 ^ (count - length (w ++ f))) (10 ^ 32)
-    → behind ≡ min (digits_value 10 (drop count (w ++ f))) (10 ^ 32)
-    → IsCut w f down power places front behind
-is_cut w f down power held places count front behind first second e small few counted in_front left =
-    let n : ℕ = digits_value 10 (w ++ f) in
-    let up : ℕ = if down then 0 else power in
-    let lower : ℕ = length f + (if down then power else 0) in
-    let at : CutAt (w ++ f) (places + up) lower (count_in_front w places down held) =
-    cut_at (w ++ f) (places + up) lower (count_in_front w places down held) (digits_append w f first second) (decides w f down power held places e small few) in
+-- the fraction of some parts, by what was cut of their digits
+pub is_cut : (p : Parts) (power places count front behind : ℕ) → IsSpelled p → power ≡ min (digits_value 10 p.power) cap
+    → length p.whole + length p.fraction < 2 ^ 65 → places ≤ 11 → count ≡ count_in_front p.whole places p.down power
+    → CutsDigits (p.whole ++ p.fraction) count front behind → IsCut (fraction_of p) places front behind
+is_cut p power places count front behind digits e small few counted cuts =
+    let ds : List ℕ = p.whole ++ p.fraction in
+    let n : ℕ = digits_value 10 ds in
+    let up : ℕ = if p.down then 0 else digits_value 10 p.power in
+    let lower : ℕ = length p.fraction + (if p.down then digits_value 10 p.power else 0) in
+    let here : ℕ = count_in_front p.whole places p.down power in
+    let at : CutAt ds (places + up) lower here =
+    cut_at ds (places + up) lower here (digits_append p.whole p.fraction digits.before_point digits.behind_point) (decides p.whole p.fraction p.down (digits_value 10 p.power) power places e small few) in
     let moved : n * 10 ^ up * 10 ^ places ≡ n * 10 ^ (places + up) = move_again n up places in
-    let behind2 : behind ≡ min (digits_value 10 (drop (count_in_front w places down held) (w ++ f))) (10 ^ 32) = left ∙ ap (λ k. min (digits_value 10 (drop k (w ++ f))) (10 ^ 32)) counted in
+    let back : behind ≡ min (digits_value 10 (drop here ds)) cap = cuts.left ∙ ap (λ k. min (digits_value 10 (drop k ds)) cap) counted in
     let same : (n * 10 ^ up * 10 ^ places) % 10 ^ lower ≡ (n * 10 ^ (places + up)) % 10 ^ lower = ap (λ x. x % 10 ^ lower) moved in
     record {
       in_front =
-          in_front ∙ ap (λ k. min (digits_value 10 (take k (w ++ f)) * 10 ^ (k - length (w ++ f))) (10 ^ 32)) counted
-          ∙ at.front ∙ ap (λ x. min (x / 10 ^ lower) (10 ^ 32)) (sym moved);
-      left = (λ z. same ∙ at.behind.0 (sym behind2 ∙ z), λ z. behind2 ∙ at.behind.1 (sym same ∙ z));
+          cuts.in_front ∙ ap (λ k. min (digits_value 10 (take k ds) * 10 ^ (k - length ds)) cap) counted
+          ∙ at.front ∙ ap (λ x. min (x / 10 ^ lower) cap) (sym moved);
+      left = (λ z. same ∙ at.behind.0 (sym back ∙ z), λ z. back ∙ at.behind.1 (sym same ∙ z));
     }

@@ -2,9 +2,9 @@ use Rattle.std.proofs.Common.{arith, ◌≡◌, ap, ◌∙◌, ◌-ℤ◌, ◌*�
 use Rattle.std.specs.Int.{w128}
 use Rattle.std.proofs.lemmas.Int.{ints}
 use Rattle.std.specs.Ordering.{int_cmp}
-use Rattle.fixed_coord.specs.Side.{turn}
+use Rattle.fixed_coord.specs.Turn.{turn}
 use Rattle.fixed_coord.proofs.TextLemmas.{cmp_by_difference}
-use Rattle.fixed_coord.proofs.plane.side.Goals as goal
+use Rattle.fixed_coord.proofs.turn.side.Goals as goal
 
 pub returns : goal.returns
 returns c =

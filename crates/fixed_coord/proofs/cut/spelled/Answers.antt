@@ -1,6 +1,6 @@
 use Rattle.std.proofs.Common.{arith}
 use Rattle.fixed_coord.proofs.DigitLemmas.{digit_known, after_more}
-use Rattle.fixed_coord.proofs.held.spelled.Goals as goal
+use Rattle.fixed_coord.proofs.cut.spelled.Goals as goal
 
 pub overflow_sub-digit : goal.overflow_sub-digit
 overflow_sub-digit c = (digit_known c.args.digits.now c.loop-digit.digit-index c.requires.digits c.loop-digit-test.true).0

@@ -1,10 +1,10 @@
--- Worked rows of the definitions, computed at each check.
+-- The definitions of numbers at worked texts, computed at each check.
 use Rattle.std.proofs.Common.{◌≡◌, ◌^◌, Ok, Err, pos, neg_ℤ, refl}
 use Rattle.std.specs.Prelude.{codes}
 use Rattle.std.specs.Fmt.{digits}
 use Rattle.fixed_coord.specs.declared.fault.NumberFault.TheVariants.{NotNumber, NotWhole, OutOfRange}
 use Rattle.fixed_coord.specs.Round.{round_half_away}
-use Rattle.fixed_coord.specs.Held.{scaled_of}
+use Rattle.fixed_coord.specs.Scaled.{scaled_of}
 use Rattle.fixed_coord.specs.Whole.{whole_of}
 use Rattle.fixed_coord.specs.Coordinate.{coord_of}
 use Rattle.fixed_coord.specs.Shortest.{shortest}
@@ -21,8 +21,8 @@ half_down = refl
 below_half : scaled_of 0 (codes "2.4999") ≡ Ok (pos 2)
 below_half = refl
 
-held_low : scaled_of 6 (codes "-3.4028234663852886e+38") ≡ Ok (neg_ℤ (pos (10 ^ 30)))
-held_low = refl
+capped_low : scaled_of 6 (codes "-3.4028234663852886e+38") ≡ Ok (neg_ℤ (pos (10 ^ 30)))
+capped_low = refl
 
 minus_zero : scaled_of 10 (codes "-0") ≡ Ok (pos 0)
 minus_zero = refl
@@ -60,8 +60,8 @@ whole_with_point = refl
 not_whole : whole_of (codes "12.5") ≡ Err NotWhole
 not_whole = refl
 
-whole_held : whole_of (codes "1e40") ≡ Ok (pos (10 ^ 30))
-whole_held = refl
+whole_capped : whole_of (codes "1e40") ≡ Ok (pos (10 ^ 30))
+whole_capped = refl
 
 farthest : coord_of (codes "40000000.00000000004") ≡ Ok (pos 400000000000000000)
 farthest = refl
@@ -81,5 +81,8 @@ inner_zeros : shortest (pos 1000400) 6 ≡ codes "1.0004"
 unfolding digits
 inner_zeros = refl
 
-two_halves : round_half_away (neg_ℤ (pos 5)) 2 ≡ neg_ℤ (pos 3)
-two_halves = refl
+half_away_up : round_half_away (pos 5) 2 ≡ pos 3
+half_away_up = refl
+
+half_away_down : round_half_away (neg_ℤ (pos 5)) 2 ≡ neg_ℤ (pos 3)
+half_away_down = refl
