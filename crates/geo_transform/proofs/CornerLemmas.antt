@@ -1,22 +1,22 @@
--- Places between two edges.
+-- Corners between two edges, and shares of a span.
 use Rattle.std.proofs.Common.{ℕ, ℤ, ◌+◌, ◌*◌, ◌<◌, ◌≤◌, ◌<ℤ◌, ◌+ℤ◌, ◌*ℤ◌, arith, pos, negsuc, ◌/◌, ◌^◌, unsigned_abs}
 use Rattle.std.proofs.lemmas.Int.{ints}
 use Rattle.std.proofs.Math.Nat.{mul-le-mul_left, div-lt_iff_lt-mul}
 use Rattle.fixed_coord.specs.Coordinate.{IsCoord}
-use Rattle.fixed_coord.specs.Round.{round_ratio, round_half_away}
-use Rattle.geo_transform.specs.Layout.{IsSpan}
-use Rattle.geo_transform.specs.Place.{IsReached}
+use Rattle.fixed_coord.specs.Round.{round_half_up, round_half_away}
+use Rattle.geo_transform.specs.Inner.Span.{IsSpan}
+use Rattle.geo_transform.specs.Inner.Way.{IsWay}
 
-pub between : (left size : ℤ) (n k : ℕ) → pos 0 <ℤ size → k ≤ n → IsCoord left → IsCoord (left +ℤ pos n *ℤ size) → IsReached left k size
+pub between : (left size : ℤ) (n k : ℕ) → pos 0 <ℤ size → k ≤ n → IsCoord left → IsCoord (left +ℤ pos n *ℤ size) → IsWay left k size
 between left (pos s) n k some within a b =
     let more : s * k ≤ s * n = mul-le-mul_left s within in
     record {
-      way = omega (arith, ints, more, a.low, b.high);
-      there = record { low = omega (arith, ints, more, a.low); high = omega (arith, ints, more, b.high) };
+      short = omega (arith, ints, more, a.low, b.high);
+      end = record { low = omega (arith, ints, more, a.low); high = omega (arith, ints, more, b.high) };
     }
 between left (negsuc s) n k some within a b = absurd (omega (arith, ints, some))
 
-pub round_below : (n d : ℕ) → 0 < d → round_ratio n d ≤ n
+pub round_below : (n d : ℕ) → 0 < d → round_half_up n d ≤ n
 round_below n d some =
     let more : n * 1 ≤ n * d = mul-le-mul_left n some in
     let positive : 0 < 2 * d = omega arith in

@@ -1,7 +1,7 @@
 use Rattle.std.proofs.Common.{arith, ◌≡◌, ◌+ℤ◌, ◌*ℤ◌, pos, sym, ◌∙◌, to_z, of_z, w64, subst, ℤ}
 use Rattle.std.proofs.lemmas.Int.{ints}
 use Rattle.fixed_coord.specs.Coordinate.{IsCoord}
-use Rattle.geo_transform.proofs.place.along.Goals as goal
+use Rattle.geo_transform.proofs.corner.along.Goals as goal
 
 pub of_units-requires : goal.of_units-requires
 of_units-requires c =
@@ -10,8 +10,8 @@ of_units-requires c =
     let product : to_z w64 (of_z w64 c.from.result) *ℤ to_z w64 (of_z w64 c.units-2.result) ≡ pos c.args.count *ℤ c.args.step = cc (a, b) in
     let sum : to_z w64 (of_z w64 (to_z w64 (of_z w64 c.units.result) +ℤ to_z w64 (of_z w64 (to_z w64 (of_z w64 c.from.result) *ℤ to_z w64 (of_z w64 c.units-2.result)))))
     ≡ c.args.start +ℤ pos c.args.count *ℤ c.args.step =
-    omega (arith, ints, product, c.requires.way, c.requires.there.low, c.requires.there.high) in
-    subst (λ (z : ℤ). IsCoord z) (sym sum) c.requires.there
+    omega (arith, ints, product, c.requires.short, c.requires.end.low, c.requires.end.high) in
+    subst (λ (z : ℤ). IsCoord z) (sym sum) c.requires.end
 
 pub returns : goal.returns
 returns c =
@@ -20,5 +20,5 @@ returns c =
     let product : to_z w64 (of_z w64 c.from.result) *ℤ to_z w64 (of_z w64 c.units-2.result) ≡ pos c.args.count *ℤ c.args.step = cc (a, b) in
     let sum : to_z w64 (of_z w64 (to_z w64 (of_z w64 c.units.result) +ℤ to_z w64 (of_z w64 (to_z w64 (of_z w64 c.from.result) *ℤ to_z w64 (of_z w64 c.units-2.result)))))
     ≡ c.args.start +ℤ pos c.args.count *ℤ c.args.step =
-    omega (arith, ints, product, c.requires.way, c.requires.there.low, c.requires.there.high) in
+    omega (arith, ints, product, c.requires.short, c.requires.end.low, c.requires.end.high) in
     c.of_units.ensures ∙ sum

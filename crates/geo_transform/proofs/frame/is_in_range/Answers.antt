@@ -2,8 +2,8 @@ use Rattle.std.proofs.Common.{arith, ◌≡◌, ◌∙◌, to_z, of_z}
 use Rattle.std.specs.Int.{w128}
 use Rattle.std.proofs.lemmas.Int.{ints}
 use Rattle.geo_transform.specs.Layout.{Layout, right_edge, upper_edge}
-use Rattle.geo_transform.proofs.FaultLemmas.{reach_by_edges}
-use Rattle.geo_transform.proofs.frame.is_reached.Goals as goal
+use Rattle.geo_transform.proofs.FaultLemmas.{range_by_edges}
+use Rattle.geo_transform.proofs.frame.is_in_range.Goals as goal
 
 pub returns : goal.returns
 returns c =
@@ -16,4 +16,4 @@ returns c =
     let u : c.far_edge-upper.result ≡ upper_edge l = c.far_edge-upper.ensures ∙ cc (b, h) in
     let r2 : to_z w128 (of_z w128 c.far_edge-right.result) ≡ c.far_edge-right.result = omega (arith, ints) in
     let u2 : to_z w128 (of_z w128 c.far_edge-upper.result) ≡ c.far_edge-upper.result = omega (arith, ints) in
-    reach_by_edges l _ _ _ _ _ _ c.are_within.result c.are_within.ensures w h a b (r2 ∙ r) (u2 ∙ u)
+    range_by_edges l _ _ _ _ _ _ c.are_within.result c.are_within.ensures w h a b (r2 ∙ r) (u2 ∙ u)

@@ -1,8 +1,10 @@
-// Corners and centres.
+// Corners and centres of cells.
 ghost use Rattle.std.specs.Prelude.{◌≡◌, ◌<◌, ◌≤◌, ◌+ℤ◌, ◌*ℤ◌, pos};
-ghost use Rattle.geo_transform.specs.Place.{IsFrame, IsReached, centre2_of, corner_of};
+ghost use Rattle.geo_transform.specs.Frame.{IsFrame};
+ghost use Rattle.geo_transform.specs.Corner.{centre2_of, corner_of};
+ghost use Rattle.geo_transform.specs.Inner.Way.{IsWay};
 
-use super::frame::Frame;
+use crate::frame::Frame;
 use fixed_coord::Coord;
 
 impl Frame {
@@ -32,9 +34,9 @@ impl Frame {
     }
 }
 
-/// The coordinate behind so many steps.
+// The coordinate behind so many steps.
 fn along(start: Coord, count: u32, step: Coord) -> Coord
-    requires { IsReached start count step }
+    requires { IsWay start count step }
     ensures { result ≡ start +ℤ pos count *ℤ step }
 {
     Coord::of_units(start.units() + i64::from(count) * step.units())
