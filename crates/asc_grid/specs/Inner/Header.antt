@@ -1,6 +1,6 @@
 -- What is known of a header that was read.
 use Rattle.std.specs.Prelude.{pos, neg_ℤ, ◌*◌, ◌<◌, ◌≤◌, ◌≤ℤ◌, ◌^◌}
-use Rattle.cell_base.specs.Raster.{most_cells}
+use Rattle.fixed_coord.specs.Limits.{most_cells}
 use Rattle.asc_grid.specs.declared.plain.Header.{Header}
 
 -- each number has at most eight digits

@@ -1,4 +1,4 @@
--- Small texts, computed.
+-- The plain grids of small texts, computed at each check.
 use Rattle.std.proofs.Common.{◌≡◌, Some, None, refl}
 use Rattle.std.specs.Prelude.{codes, option_map}
 use Rattle.std.specs.Fmt.{digits}
