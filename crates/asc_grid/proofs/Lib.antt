@@ -1,4 +1,4 @@
 pub mod NumberLemmas
 pub mod TokenLemmas
 pub mod WriteLemmas
-mod WorkedRows
+mod PlainExamples

@@ -1,16 +1,12 @@
 -- Digits, one after another.
-use Rattle.std.proofs.Common.{◌≡◌, ℕ, zero, suc, ◌-◌, ◌^◌, ◌<◌, ◌≤◌, ◌≢◌, ◌⊎◌, inl, inr, lit<, drop, Bool, true, false, List, [], ◌∷◌, length, take, get_or, arith, refl}
+use Rattle.std.proofs.Common.{◌≡◌, ℕ, zero, suc, ◌-◌, ◌^◌, ◌<◌, ◌≤◌, ◌≢◌, ◌⊎◌, inl, inr, lit<, drop, true, false, List, [], ◌∷◌, length, take, get_or, arith, refl}
 use Rattle.std.specs.Prelude.{◌&&◌, nat_le, None, option_map, pos, neg_ℤ}
+use Rattle.std.proofs.Math.Bool.{and-false}
 use Rattle.std.proofs.Math.Nat.{pow-le-pow_right}
 use Rattle.asc_grid.specs.PlainNumber.{number_of, signed_number_of}
-use Rattle.std.specs.Char.{is_ascii_digit}
-use Rattle.std.specs.Char.{digit_value}
+use Rattle.std.specs.Char.{digit_value, is_ascii_digit}
 use Rattle.std.specs.Str.{all_ascii_digits}
 use Rattle.std.proofs.lemmas.Bool.Decides.{nat_tests}
-
-both_false : (b : Bool) → (b && false) ≡ false
-both_false true = refl
-both_false false = refl
 
 pub digit_value-of_digit : (byte : ℕ) → is_ascii_digit byte ≡ true → digit_value byte ≡ byte - 48
 digit_value-of_digit byte digit = grind (arith, nat_tests, digit)
@@ -26,10 +22,10 @@ all_digits_more (byte ∷ bytes) (suc n) within before digit = grind (arith, bef
 pub not_all_digits : (text : List ℕ) (n : ℕ) → n < length text → is_ascii_digit (get_or text n 0) ≡ false → all_ascii_digits text ≡ false
 not_all_digits [] n within other = absurd (omega (arith, within))
 not_all_digits (byte ∷ bytes) zero within other = rw other refl
-not_all_digits (byte ∷ bytes) (suc n) within other = rw (not_all_digits bytes n (omega (arith, within)) other) (both_false (is_ascii_digit byte))
+not_all_digits (byte ∷ bytes) (suc n) within other = rw (not_all_digits bytes n (omega (arith, within)) other) (and-false (is_ascii_digit byte))
 
 pub number_of-none : (most : ℕ) (text : List ℕ) → all_ascii_digits text ≡ false → number_of most text ≡ None
-number_of-none most text other = rw (other, both_false (nat_le 1 (length text) && nat_le (length text) most)) refl
+number_of-none most text other = rw (other, and-false (nat_le 1 (length text) && nat_le (length text) most)) refl
 
 pub signed_number_of-plus : (most : ℕ) (text : List ℕ) → (length text ≡ 0) ⊎ (get_or text 0 0 ≢ 45) → signed_number_of most text ≡ option_map pos (number_of most text)
 signed_number_of-plus most [] either = refl

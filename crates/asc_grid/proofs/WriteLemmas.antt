@@ -8,7 +8,8 @@ use Rattle.std.proofs.lemmas.Option.{none-some, same_Some}
 use Rattle.std.specs.Fmt.{signed_decimal}
 use Rattle.std.proofs.lemmas.Bool.Decides.{nat_tests}
 use Rattle.asc_grid.specs.Appended.{Appends, AppendsPart}
-use Rattle.asc_grid.specs.Canonical.{row_rest, row_text, rows_rest}
+use Rattle.asc_grid.specs.Canonical.{row_text}
+use Rattle.asc_grid.specs.Inner.Rest.{row_rest, rows_rest}
 
 pub appends_nothing : (before text : List ℕ) → Appends before before text text
 appends_nothing before text = ([], refl, sym (append-nil before))
@@ -57,7 +58,7 @@ rows_rest-row [] row col cells is = absurd (none-some cells is)
 rows_rest-row (first ∷ rows) zero col cells is = rw (same_Some first cells is) refl
 rows_rest-row (first ∷ rows) (suc row) col cells is = rows_rest-row rows row col cells is
 
--- from a row's start on the rows' text is whole
+-- from a row's start on the text of all further rows is left
 pub rows_rest-start : (ncols : ℕ) (rows : List (List ℤ)) (row : ℕ) → 0 < ncols → All (λ row. length row ≡ ncols) rows → rows_rest rows row 0 ≡ flat_map row_text (drop row rows)
 rows_rest-start ncols [] zero some width = refl
 rows_rest-start ncols [] (suc row) some width = refl

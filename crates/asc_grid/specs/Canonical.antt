@@ -1,5 +1,5 @@
 -- The canonical text of a grid. Source: ESRI ASCII grid; the spelling is this project's own.
-use Rattle.std.specs.Prelude.{ℕ, zero, suc, ℤ, pos, drop, List, [], ◌∷◌, ◌++◌, map, codes}
+use Rattle.std.specs.Prelude.{ℕ, ℤ, pos, List, [], ◌∷◌, ◌++◌, map, codes}
 use Rattle.std.specs.List.{flat_map, join_with_byte}
 use Rattle.std.specs.Fmt.{signed_decimal}
 use Rattle.asc_grid.specs.declared.plain.PlainAsc.{PlainAsc}
@@ -22,14 +22,3 @@ row_text row = join_with_byte 32 (map signed_decimal row) ++ 10 ∷ []
 -- the header, and a line for each row from the top
 abbrev pub canonical_text : PlainAsc → List ℕ
 canonical_text grid = header_text grid ++ flat_map row_text grid.cells.rows
-
--- the rest of a row's text, from the first of these cells on
-abbrev pub row_rest : List ℤ → List ℕ
-row_rest [] = []
-row_rest (cell ∷ cells) = row_text (cell ∷ cells)
-
--- the rest of the rows' text, from a row and a column on
-abbrev pub rows_rest : List (List ℤ) → ℕ → ℕ → List ℕ
-rows_rest [] row col = []
-rows_rest (first ∷ rows) zero col = row_rest (drop col first) ++ flat_map row_text rows
-rows_rest (first ∷ rows) (suc row) col = rows_rest rows row col

@@ -1,5 +1,6 @@
 -- The numbers of a plain grid. Source: this project's own.
-use Rattle.std.specs.Prelude.{ℕ, ℤ, pos, neg_ℤ, ◌==◌, ◌&&◌, nat_le, Bool, [], ◌∷◌, length, Option, Some, None, option_map, option_and_then, if◌then◌else◌}
+use Rattle.std.specs.Prelude.{ℕ, ℤ, pos, neg_ℤ, ◌==◌, ◌&&◌, nat_le, Bool, if◌then◌else◌, [], ◌∷◌, length}
+use Rattle.std.specs.Prelude.{Option, Some, None, option_map, option_and_then}
 use Rattle.std.specs.Str.{all_ascii_digits}
 use Rattle.std.specs.Str.Parse.{digits_value}
 use Rattle.asc_grid.specs.Tokens.{Token}
@@ -15,7 +16,10 @@ number_of most token = if is_digits most token then Some (digits_value 10 token)
 -- the number that an optional minus and at most so many digits write
 abbrev pub signed_number_of : ℕ → Token → Option ℤ
 signed_number_of most [] = None
-signed_number_of most (byte ∷ bytes) = if byte == 45 then option_map (λ n. neg_ℤ (pos n)) (number_of most bytes) else option_map pos (number_of most (byte ∷ bytes))
+signed_number_of most (byte ∷ bytes) =
+    if byte == 45
+    then option_map (λ n. neg_ℤ (pos n)) (number_of most bytes)
+    else option_map pos (number_of most (byte ∷ bytes))
 
 -- a number of columns or rows, or a cell size: at least 1, in at most eight digits
 abbrev pub count_of : Token → Option ℕ

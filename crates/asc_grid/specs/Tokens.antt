@@ -18,9 +18,11 @@ abbrev pub joined_to : ℕ → List Token → List Token
 joined_to byte [] = []
 joined_to byte (token ∷ tokens) = (byte ∷ token) ∷ tokens
 
--- the tokens with a byte put in front of their text: it joins the token that begins right behind it, or is a token of its own
+-- the tokens with a byte put in front of their text: it joins the token that begins right behind it, or is a token
+-- of its own
 abbrev pub put_in_front : ℕ → Bool → List Token → List Token
-put_in_front byte joins tokens = if is_blank byte then tokens else if joins then joined_to byte tokens else (byte ∷ []) ∷ tokens
+put_in_front byte joins tokens =
+    if is_blank byte then tokens else if joins then joined_to byte tokens else (byte ∷ []) ∷ tokens
 
 abbrev pub tokens_of : List ℕ → List Token
 tokens_of [] = []

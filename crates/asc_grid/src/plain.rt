@@ -1,13 +1,14 @@
 // Reading a plain grid.
 ghost use Rattle.std.specs.Prelude.{◌≡◌, ◌*◌, ◌<◌, ◌≤◌, ◌≤ℤ◌, ◌^◌, pos, neg_ℤ, IfOk, IfSome, length, option_map};
-ghost use Rattle.cell_base.specs.Raster.{most_cells};
+ghost use Rattle.fixed_coord.specs.Limits.{most_cells};
 ghost use Rattle.asc_grid.specs.PlainNumber.{count_of, coordinate_of};
-ghost use Rattle.asc_grid.specs.Header.{HasCells, IsSmall};
-ghost use Rattle.asc_grid.specs.Plain.{exactly_cells, field, header_of, is_frame, is_side, plain_grid_of};
+ghost use Rattle.asc_grid.specs.Inner.Header.{HasCells, IsSmall};
+ghost use Rattle.asc_grid.specs.Plain.{exactly_cells, field, header_of, is_within_limits, is_side, plain_grid_of};
 
 use crate::number::{cell, coordinate, count};
 use crate::tokens::Tokens;
 use cell_base::Grid;
+use fixed_coord::{MOST_CELLS, MOST_COORDINATE};
 use std::alloc::{AllocError, Global};
 
 /// A plain grid: its frame in whole numbers, and its cells.
@@ -36,10 +37,6 @@ struct Header {
     cell: u32,
 }
 
-const MOST_CELLS: u64 = 16_777_216;
-
-const MOST_COORDINATE: u32 = 40_000_000;
-
 // Whether so many cells of this size from this edge on stay within the coordinates.
 fn is_side(edge: i64, count: u32, cell: u32) -> bool
     requires count { count < 10 ^ 8 }
@@ -54,11 +51,11 @@ fn is_side(edge: i64, count: u32, cell: u32) -> bool
 }
 
 // Whether there are not too many cells, none is too large, and no edge is past the greatest coordinate.
-fn is_frame(header: Header) -> bool
+fn is_within_limits(header: Header) -> bool
     requires { IsSmall header }
-    ensures { result ≡ is_frame header }
+    ensures { result ≡ is_within_limits header }
 {
-    u64::from(header.ncols) * u64::from(header.nrows) <= MOST_CELLS
+    u64::from(header.ncols) * u64::from(header.nrows) <= u64::from(MOST_CELLS)
         && header.cell <= MOST_COORDINATE
         && is_side(header.xll, header.ncols, header.cell)
         && is_side(header.yll, header.nrows, header.cell)
@@ -105,7 +102,11 @@ fn read_header(tokens: &mut Tokens<'_>) -> Option<Header>
         yll,
         cell,
     };
-    if is_frame(header) { Some(header) } else { None }
+    if is_within_limits(header) {
+        Some(header)
+    } else {
+        None
+    }
 }
 
 // The values of exactly so many cells, if the tokens are these.
@@ -116,7 +117,7 @@ fn read_cells(
 ) -> Result<Option<Vec<i64>>, AllocError>
     requires { count ≤ most_cells }
     ensures value { IfOk result (λ read. exactly_cells count tokens.old ≡ option_map (λ cells. cells.items) read) }
-    ensures whole { IfOk result (λ read. IfSome read (λ cells. length cells.items ≡ count)) }
+    ensures count { IfOk result (λ read. IfSome read (λ cells. length cells.items ≡ count)) }
 {
     let mut cells = Vec::with_capacity(alloc, count)?;
     for _ in 0..count {

@@ -1,10 +1,11 @@
 // Writing a plain grid.
-ghost use Rattle.std.specs.Prelude.{◌≡◌, ◌++◌, ◌<◌, ◌≤◌, IfOk, OnErr, OnOk, [], drop, length, MatchBool, if◌then◌else◌};
+ghost use Rattle.std.specs.Prelude.{◌≡◌, ◌++◌, ◌<◌, ◌≤◌, IfOk, OnErr, OnOk, [], length, MatchBool, if◌then◌else◌};
 ghost use Rattle.std.specs.String.{string_bytes};
 ghost use Rattle.asc_grid.specs.Appended.{Appends, AppendsPart};
-ghost use Rattle.asc_grid.specs.Canonical.{canonical_text, header_line, header_text, row_rest, row_text, rows_rest};
+ghost use Rattle.asc_grid.specs.Canonical.{canonical_text, header_line, header_text, row_text};
+ghost use Rattle.asc_grid.specs.Inner.Next.{IsNext, rows_from};
+ghost use Rattle.asc_grid.specs.Inner.Rest.{row_from};
 ghost use Rattle.std.specs.List.{flat_map};
-ghost use Rattle.asc_grid.specs.Next.{IsNext};
 
 use crate::PlainAsc;
 use cell_base::{Cell, Grid};
@@ -50,8 +51,8 @@ fn append_cells(
     ensures within { IfOk result (λ col. col ≤ length row.now) }
     ensures further { IfOk result (λ col. from < length row.now → length out.old.items < limit → from < col) }
     ensures full { IfOk result (λ col. col < length row.now → limit ≤ length out.new.items) }
-    ensures ok { IfOk result (λ col. Appends out.old.items out.new.items (row_rest (drop from row.now)) (row_rest (drop col row.now))) }
-    ensures err { OnErr result (AppendsPart out.old.items out.new.items (row_rest (drop from row.now))) }
+    ensures ok { IfOk result (λ col. Appends out.old.items out.new.items (row_from row.now from) (row_from row.now col)) }
+    ensures err { OnErr result (AppendsPart out.old.items out.new.items (row_from row.now from)) }
 {
     let mut col = from;
     while col < row.len() && out.len() < limit {
@@ -69,10 +70,10 @@ struct Next {
     col: usize,
 }
 
-// The grid's first cell, from which on its rows are whole.
+// The grid's first cell, from which on all its rows are left.
 fn first_of(cells: &Grid<i64>) -> Next
     ensures next { IsNext cells.now result }
-    ensures all { rows_rest cells.now.rows result.row result.col ≡ flat_map row_text cells.now.rows }
+    ensures all { rows_from cells.now result ≡ flat_map row_text cells.now.rows }
 {
     // A proof learns the grid's shape from this call.
     let _ncols = cells.ncols();
@@ -89,9 +90,9 @@ fn append_rows(
 ) -> Result<Next, AllocError>
     requires { IsNext cells.now from }
     ensures next { IfOk result (IsNext cells.now) }
-    ensures all { IfOk result (λ next. length out.new.items < limit → rows_rest cells.now.rows next.row next.col ≡ []) }
-    ensures ok { IfOk result (λ next. Appends out.old.items out.new.items (rows_rest cells.now.rows from.row from.col) (rows_rest cells.now.rows next.row next.col)) }
-    ensures err { OnErr result (AppendsPart out.old.items out.new.items (rows_rest cells.now.rows from.row from.col)) }
+    ensures all { IfOk result (λ next. length out.new.items < limit → rows_from cells.now next ≡ []) }
+    ensures ok { IfOk result (λ next. Appends out.old.items out.new.items (rows_from cells.now from) (rows_from cells.now next)) }
+    ensures err { OnErr result (AppendsPart out.old.items out.new.items (rows_from cells.now from)) }
 {
     let mut col = from.col;
     for row in from.row..cells.nrows() {
@@ -136,7 +137,7 @@ impl<'a> Model for PlainText<'a> {
 
     ghost Value = { List ℕ };
 
-    ghost use Rattle.asc_grid.specs.Next.{text_left, IsNext};
+    ghost use Rattle.asc_grid.specs.Inner.Next.{text_left, IsNext};
 
     ghost view = { λ t. text_left t.grid.now t.has_header t.next };
 
@@ -144,7 +145,7 @@ impl<'a> Model for PlainText<'a> {
 }
 
 impl<'a> PlainText<'a> {
-    /// The whole text of a grid. It takes no memory.
+    /// The text of a grid, all of it still left. It takes no memory.
     pub fn of(alloc: Global, grid: &'a PlainAsc) -> PlainText<'a>
         ensures { result ≡ canonical_text grid.now }
     {

@@ -1,6 +1,6 @@
 -- What a cell of a number of units is. This project's own.
 use Rattle.std.specs.Prelude.{ℕ, ℤ, ◌^◌, ◌&&◌, int_lt, int_le, ◌≤ℤ◌, if◌then◌else◌, List, Result, Ok, Err, pos, neg_ℤ}
-use Rattle.fixed_coord.specs.Held.{scaled_of}
+use Rattle.fixed_coord.specs.Scaled.{scaled_of}
 use Rattle.fixed_coord.specs.Whole.{whole_of}
 use Rattle.fixed_coord.specs.declared.fault.NumberFault.{NumberFault}
 use Rattle.fixed_coord.specs.declared.fault.NumberFault.TheVariants.{NotNumber as TextNotNumber, NotWhole as TextNotWhole, OutOfRange as TextOutOfRange}

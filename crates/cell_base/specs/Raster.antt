@@ -1,5 +1,6 @@
 -- A grid of values as contracts see it, and its places.
 use Rattle.std.specs.Prelude.{◌≡◌, ◌≢◌, ℕ, zero, suc, ◌*◌, ◌<◌, ◌≤◌, List, [], ◌∷◌, Option, Some, length, take, drop, slice_get, unwrap_or, All}
+pub use Rattle.fixed_coord.specs.Limits.{most_cells}
 
 -- a place of a grid: its row, counted from the top, and its column, counted from the left
 abbrev pub Place : Type 0
@@ -10,10 +11,6 @@ pub record Raster (T : Type 0) : Type 0 where
   pub ncols : ℕ
   pub nrows : ℕ
   pub rows : List (List T)
-
--- the most cells that a grid may have
-abbrev pub most_cells : ℕ
-most_cells = 16777216
 
 -- the value at a place, if the place is inside
 abbrev pub value_at : {T : Type 0} → Raster T → Place → Option T

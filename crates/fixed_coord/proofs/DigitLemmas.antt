@@ -80,13 +80,13 @@ cut_past ds m all past =
 pub cuts_off : (ds : List ℕ) (m : ℕ) → AllDigits 10 ds → CutsOff ds m
 cuts_off ds m all = elim (cases_lt (length ds) m) [ inl past ↦ cut_past ds m all past | inr within ↦ cut_within ds m all within ]
 
-digit_from_value : (c : ℕ) → digit_value c < 10 → (48 ≤ c) × (digit_value c ≡ c - 48)
-digit_from_value c h = grind (arith, nat_tests)
+digit_at : (c : ℕ) → digit_value c < 10 → (48 ≤ c) × (digit_value c ≡ c - 48)
+digit_at c h = grind (arith, nat_tests)
 
 -- a digit at a place
 pub digit_known : (ds : List ℕ) (i : ℕ) → AllDigits 10 ds → i < length ds → (48 ≤ get_or ds i 0) × (digit_value (get_or ds i 0) ≡ get_or ds i 0 - 48)
 digit_known [] i all inside = absurd (omega arith)
-digit_known (d ∷ ds) zero all inside = digit_from_value d all.0
+digit_known (d ∷ ds) zero all inside = digit_at d all.0
 digit_known (d ∷ ds) (suc i) all inside = digit_known ds i all.1 (omega arith)
 
 take_first : (count : ℕ) (xs ys : List ℕ) → take count (xs ++ ys) ≡ take count xs ++ take (count - length xs) ys

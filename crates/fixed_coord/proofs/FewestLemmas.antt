@@ -8,8 +8,9 @@ use Rattle.std.proofs.lemmas.Nat.{pow-add, div-mul-add, mod-mul-add, div-add-mod
 use Rattle.std.proofs.lemmas.Bool.{cases_lt, ne_eqb, eq-eqb}
 use Rattle.std.proofs.Math.Arith.{mod-mul}
 use Rattle.std.proofs.Math.Nat.{mod-eq_of_lt, mul-mod_left, mul-le-mul_left, mul-div_cancel, div-le_self}
-use Rattle.fixed_coord.specs.Shortest.{decimals, point_and_decimals, shortest_size, plain_text, IsPlain}
-use Rattle.fixed_coord.proofs.KeptLemmas.{pow10_pos}
+use Rattle.fixed_coord.specs.Limits.{largest}
+use Rattle.fixed_coord.specs.Shortest.{decimals, point_and_decimals, shortest_size, plain_text, IsPlain, NoneIsShorter}
+use Rattle.fixed_coord.proofs.CutLemmas.{pow10_pos}
 use Rattle.fixed_coord.proofs.DigitLemmas.{value_append}
 use Rattle.fixed_coord.proofs.WriteLemmas.{decimals_none, decimals_next}
 use Rattle.fixed_coord.proofs.ShortestLemmas.{decimals_spell}
@@ -125,8 +126,8 @@ some_decimals zero rest some small = absurd (omega arith)
 some_decimals (suc places) rest some small = omega (arith, ap length (decimals_next places rest some))
 
 -- no plain text of as many units is shorter
-pub shortest_IsShortest : (size places : ℕ) (whole fraction : List ℕ) → size ≤ 10 ^ 30 → IsPlain size places whole fraction → length (shortest_size size places) ≤ length (plain_text whole fraction)
-shortest_IsShortest size places whole fraction small is =
+pub shortest_size-NoneIsShorter : (size places : ℕ) → size ≤ largest → NoneIsShorter size places (shortest_size size places)
+shortest_size-NoneIsShorter size places small whole fraction is =
     let rest : ℕ = size % 10 ^ places in
     let digits : length (decimal (size / 10 ^ places)) ≤ length whole = fewest_digits size places whole fraction (omega arith) is in
     let few : length (decimals places rest) ≤ length fraction = fewest_decimals size places whole fraction is in

@@ -1,10 +1,10 @@
 pub mod TextLemmas
 pub mod RoundLemmas
 pub mod DigitLemmas
-pub mod KeptLemmas
+pub mod CutLemmas
 pub mod PlainLemmas
 pub mod ReadLemmas
 pub mod WriteLemmas
 pub mod ShortestLemmas
-mod NumberRows
+mod NumberExamples
 pub mod FewestLemmas

@@ -8,10 +8,10 @@ use Rattle.std.proofs.lemmas.Bool.{lt-ltb, eq-eqb, ltb-true, and_parts}
 use Rattle.fixed_coord.specs.declared.fault.NumberFault.TheVariants.{NotWhole}
 use Rattle.std.proofs.Math.Seq.{take-append_seam, drop-append_seam}
 use Rattle.fixed_coord.specs.Number.{Parts, parts_of, digits_in_front, behind_digits, behind_sign, has_minus, decimals_in_front, behind_decimals, exponent_of}
-use Rattle.fixed_coord.specs.Held.{held, read_by}
+use Rattle.fixed_coord.specs.Scaled.{capped, read_by}
 use Rattle.fixed_coord.specs.Whole.{whole_of, whole_fraction, IsShort}
 use Rattle.fixed_coord.proofs.TextLemmas.{digit_of, numeral_AllDigits}
-use Rattle.fixed_coord.proofs.ReadLemmas.{held_small}
+use Rattle.fixed_coord.proofs.ReadLemmas.{capped_small}
 
 -- no digit stands first
 abbrev pub stops : List ℕ → Bool
@@ -79,19 +79,19 @@ decimal_parts text ds fs e all others some =
     ∙ ap (λ (r : List ℕ). parts_with (has_minus text) ds fs r) (none_behind fs others)
     ∙ nothing_behind (has_minus text) ds fs some
 
-whole_over_one : (negative : Bool) (n : ℕ) → whole_fraction (record { negative = negative; above = n; below = 1 }) ≡ Ok (held negative n)
+whole_over_one : (negative : Bool) (n : ℕ) → whole_fraction (record { negative = negative; above = n; below = 1 }) ≡ Ok (capped negative n)
 whole_over_one negative n =
-    ap (λ (b : Bool). if b then Ok (held negative (n / 1)) else Err NotWhole) (eq-eqb (n % 1) 0 (omega arith))
-    ∙ ap (λ x. Ok (held negative x)) (omega arith)
+    ap (λ (b : Bool). if b then Ok (capped negative (n / 1)) else Err NotWhole) (eq-eqb (n % 1) 0 (omega arith))
+    ∙ ap (λ x. Ok (capped negative x)) (omega arith)
 
 value_alone : (ds : List ℕ) → digits_value 10 (ds ++ []) * 1 ≡ digits_value 10 ds
 value_alone ds = ap (λ (l : List ℕ). digits_value 10 l * 1) (append-nil ds) ∙ omega arith
 
 -- the whole number of digits behind a sign or none
-pub whole_digits : (text ds : List ℕ) → behind_sign text ≡ ds → AllDigits 10 ds → 0 < length ds → whole_of text ≡ Ok (held (has_minus text) (digits_value 10 ds))
+pub whole_digits : (text ds : List ℕ) → behind_sign text ≡ ds → AllDigits 10 ds → 0 < length ds → whole_of text ≡ Ok (capped (has_minus text) (digits_value 10 ds))
 whole_digits text ds e all some =
     ap (read_by whole_fraction) (whole_parts text ds e all some) ∙ whole_over_one (has_minus text) (digits_value 10 (ds ++ []) * 1)
-    ∙ ap (λ x. Ok (held (has_minus text) x)) (value_alone ds)
+    ∙ ap (λ x. Ok (capped (has_minus text) x)) (value_alone ds)
 
 -- a short text's number, by its digits
 pub short_whole_is : (text ds : List ℕ) (negative : Bool) (n : ℕ) → negative ≡ has_minus text → ds ≡ behind_sign text → n ≡ digits_value 10 ds → n < 10 ^ 18 → IsShort ds
@@ -99,6 +99,6 @@ pub short_whole_is : (text ds : List ℕ) (negative : Bool) (n : ℕ) → negati
 short_whole_is text ds negative n minus rest value small short =
     let some : 0 < length ds = ltb-true 0 (length ds) (and_parts (nat_lt 0 (length ds)) (all_ascii_digits ds) short.all_digits).0 in
     whole_digits text ds (sym rest) (numeral_AllDigits ds short.all_digits) some
-    ∙ ap (λ (b : Bool). Ok (held b (digits_value 10 ds))) (sym minus)
-    ∙ ap (λ k. Ok (held negative k)) (sym value)
-    ∙ ap Ok (held_small negative n small)
+    ∙ ap (λ (b : Bool). Ok (capped b (digits_value 10 ds))) (sym minus)
+    ∙ ap (λ k. Ok (capped negative k)) (sym value)
+    ∙ ap Ok (capped_small negative n small)

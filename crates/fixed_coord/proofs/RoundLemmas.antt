@@ -1,12 +1,12 @@
 -- Rounding to the nearest.
-use Rattle.std.proofs.Common.{◌≡◌, ℕ, suc, ◌+◌, ◌*◌, ◌/◌, ◌<◌, ◌≤◌, refl, arith, pos, negsuc, inl, inr}
+use Rattle.std.proofs.Common.{◌≡◌, ℕ, suc, ◌+◌, ◌*◌, ◌/◌, ◌<◌, ◌≤◌, arith, inl, inr}
 use Rattle.std.proofs.Math.Nat.{mul-div-le, mul-le-mul_left}
 use Rattle.std.proofs.lemmas.Bool.{cases_order}
-use Rattle.fixed_coord.specs.Round.{round_ratio, round_half_away, IsNearest}
+use Rattle.fixed_coord.specs.Round.{round_half_up, IsNearest}
 
 -- no whole number is nearer, and a half goes up
-pub round_ratio-IsNearest : (n d : ℕ) → 0 < d → IsNearest n d (round_ratio n d)
-round_ratio-IsNearest n d some =
+pub round_half_up-IsNearest : (n d : ℕ) → 0 < d → IsNearest n d (round_half_up n d)
+round_half_up-IsNearest n d some =
     let positive : 0 < 2 * d = omega arith in
     record { not_above = omega (arith, mul-div-le (2 * n + d) (2 * d)); not_below = omega (arith, positive) }
 
@@ -24,7 +24,7 @@ IsNearest-only n d r s one other =
     ]
 
 -- rounding by one digit more
-pub round_by_tenths : (n d : ℕ) → 0 < d → round_ratio n d ≡ (10 * n / d + 5) / 10
+pub round_by_tenths : (n d : ℕ) → 0 < d → round_half_up n d ≡ (10 * n / d + 5) / 10
 round_by_tenths n d some =
     let q : ℕ = 10 * n / d in
     let t : ℕ = (q + 5) / 10 in
@@ -32,15 +32,9 @@ round_by_tenths n d some =
     let high : 10 * n < d * q + d = omega (arith, some) in
     let below : d * (10 * t) ≤ d * (q + 5) = mul-le-mul_left d (omega arith) in
     let above : d * (q + 6) ≤ d * (10 * t + 10) = mul-le-mul_left d (omega arith) in
-    IsNearest-only n d (round_ratio n d) t (round_ratio-IsNearest n d some) (record { not_above = omega (arith, low, below); not_below = omega (arith, high, above) })
+    IsNearest-only n d (round_half_up n d) t (round_half_up-IsNearest n d some) (record { not_above = omega (arith, low, below); not_below = omega (arith, high, above) })
 
 -- a whole number stays
-pub round_whole : (n d : ℕ) → 0 < d → round_ratio (d * n) d ≡ n
+pub round_whole : (n d : ℕ) → 0 < d → round_half_up (d * n) d ≡ n
 round_whole n d some =
-    IsNearest-only (d * n) d (round_ratio (d * n) d) n (round_ratio-IsNearest (d * n) d some) (record { not_above = omega arith; not_below = omega (arith, some) })
-
-halves_up : round_half_away (pos 5) 2 ≡ pos 3
-halves_up = refl
-
-halves_down : round_half_away (negsuc 4) 2 ≡ negsuc 2
-halves_down = refl
+    IsNearest-only (d * n) d (round_half_up (d * n) d) n (round_half_up-IsNearest (d * n) d some) (record { not_above = omega arith; not_below = omega (arith, some) })

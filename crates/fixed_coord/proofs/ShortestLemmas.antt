@@ -8,13 +8,14 @@ use Rattle.std.proofs.lemmas.Nat.{pow-add, div-add-mod'}
 use Rattle.std.proofs.lemmas.Bool.{ne_eqb, eq-eqb, cases_lt}
 use Rattle.std.proofs.lemmas.Bool.Decides.{nat_tests}
 use Rattle.std.proofs.Math.Nat.{pow-suc, div-lt_iff_lt-mul, div-le_self}
-use Rattle.fixed_coord.specs.Round.{round_ratio}
+use Rattle.fixed_coord.specs.Round.{round_half_up}
 use Rattle.fixed_coord.specs.Number.{parts_of, behind_sign, has_minus}
-use Rattle.fixed_coord.specs.Held.{held, most, read_by, scaled_of, units_of_fraction}
+use Rattle.fixed_coord.specs.Scaled.{capped, read_by, scaled_of, units_of_fraction}
+use Rattle.fixed_coord.specs.Limits.{largest}
 use Rattle.fixed_coord.specs.Whole.{whole_of}
 use Rattle.fixed_coord.specs.Shortest.{decimals, point_and_decimals, shortest, shortest_size}
 use Rattle.fixed_coord.proofs.DigitLemmas.{after_number, value_append}
-use Rattle.fixed_coord.proofs.KeptLemmas.{pow10_pos}
+use Rattle.fixed_coord.proofs.CutLemmas.{pow10_pos}
 use Rattle.fixed_coord.proofs.RoundLemmas.{round_whole}
 use Rattle.fixed_coord.proofs.PlainLemmas.{whole_parts, decimal_parts, whole_digits}
 use Rattle.fixed_coord.proofs.WriteLemmas.{decimals_none, decimals_next}
@@ -102,7 +103,7 @@ cross q n f p w r power left =
 
 -- whole digits and decimals stand for the units that they were made of
 exact : (ds fs : List ℕ) (q r places : ℕ) → digits_value 10 ds ≡ q → Spells fs places r
-    → round_ratio (digits_value 10 (ds ++ fs) * 1 * 10 ^ places) (10 ^ (length fs + 0)) ≡ q * 10 ^ places + r
+    → round_half_up (digits_value 10 (ds ++ fs) * 1 * 10 ^ places) (10 ^ (length fs + 0)) ≡ q * 10 ^ places + r
 exact ds fs q r places value s =
     let n : ℕ = 10 ^ length fs in
     let w : ℕ = 10 ^ (places - length fs) in
@@ -113,7 +114,7 @@ exact ds fs q r places value s =
     ap (λ x. x * 1 * 10 ^ places) whole ∙ cross q n (digits_value 10 fs) (10 ^ places) w r power s.value in
     let same : length fs + 0 ≡ length fs = omega arith in
     let below : 10 ^ (length fs + 0) ≡ n = ap (λ k. 10 ^ k) same in
-    ap (λ x. round_ratio x (10 ^ (length fs + 0))) above ∙ ap (λ x. round_ratio (n * (q * 10 ^ places + r)) x) below ∙ round_whole (q * 10 ^ places + r) n (pow10_pos (length fs))
+    ap (λ x. round_half_up x (10 ^ (length fs + 0))) above ∙ ap (λ x. round_half_up (n * (q * 10 ^ places + r)) x) below ∙ round_whole (q * 10 ^ places + r) n (pow10_pos (length fs))
 
 -- the parts of a text of whole digits and decimals
 plain_parts : (text ds : List ℕ) (places rest : ℕ) → behind_sign text ≡ ds ++ point_and_decimals places rest → AllDigits 10 ds → 0 < length ds → rest < 10 ^ places
@@ -131,7 +132,7 @@ plain_parts text ds places rest e all some small =
     ]
 
 -- what is read of a text of a size
-size_read : (text : List ℕ) (size places : ℕ) → behind_sign text ≡ shortest_size size places → size < 10 ^ 64 → scaled_of places text ≡ Ok (held (has_minus text) size)
+size_read : (text : List ℕ) (size places : ℕ) → behind_sign text ≡ shortest_size size places → size < 10 ^ 64 → scaled_of places text ≡ Ok (capped (has_minus text) size)
 size_read text size places e small =
     let scale : ℕ = 10 ^ places in
     let q : ℕ = size / scale in
@@ -143,7 +144,7 @@ size_read text size places e small =
     let plain : (fs : List ℕ) × Spells fs places r × (parts_of text ≡ Some (record { negative = has_minus text; whole = ds; fraction = fs; down = false; power = [] })) =
     plain_parts text ds places r e numeral.0.1 numeral.0.0 less in
     ap (read_by (λ f. Ok (units_of_fraction places f))) plain.2
-    ∙ ap (λ x. Ok (held (has_minus text) x)) (exact ds plain.0 q r places numeral.1 plain.1 ∙ div-add-mod' size scale)
+    ∙ ap (λ x. Ok (capped (has_minus text) x)) (exact ds plain.0 q r places numeral.1 plain.1 ∙ div-add-mod' size scale)
 
 unsigned_size : (size places : ℕ) → size < 10 ^ 64 → Unsigned (shortest_size size places)
 unsigned_size size places small =
@@ -151,16 +152,16 @@ unsigned_size size places small =
     decimal_is_IsNumeral_wide (size / 10 ^ places) (omega (arith, div-le_self size (10 ^ places))) in
     unsigned_digits (decimal (size / 10 ^ places)) (point_and_decimals places (size % 10 ^ places)) numeral.0.1 numeral.0.0
 
-pub held_self : (n : ℕ) → n ≤ 10 ^ 30 → min n most ≡ n
-held_self n small = omega arith
+pub capped_self : (n : ℕ) → n ≤ largest → min n largest ≡ n
+capped_self n small = omega arith
 
 -- reading the shortest text gives the units back
-pub shortest_reads : (v : ℤ) (places : ℕ) → unsigned_abs v ≤ 10 ^ 30 → scaled_of places (shortest v places) ≡ Ok v
+pub shortest_reads : (v : ℤ) (places : ℕ) → unsigned_abs v ≤ largest → scaled_of places (shortest v places) ≡ Ok v
 shortest_reads (pos size) places small =
     let u : Unsigned (shortest_size size places) = unsigned_size size places (omega arith) in
-    size_read (shortest_size size places) size places u.rest (omega arith) ∙ ap (λ (b : Bool). Ok (held b size)) u.plus ∙ ap (λ k. Ok (pos k)) (held_self size small)
+    size_read (shortest_size size places) size places u.rest (omega arith) ∙ ap (λ (b : Bool). Ok (capped b size)) u.plus ∙ ap (λ k. Ok (pos k)) (capped_self size small)
 shortest_reads (negsuc size) places small =
-    size_read (45 ∷ shortest_size (suc size) places) (suc size) places refl (omega arith) ∙ ap (λ k. Ok (neg_ℤ (pos k))) (held_self (suc size) small)
+    size_read (45 ∷ shortest_size (suc size) places) (suc size) places refl (omega arith) ∙ ap (λ k. Ok (neg_ℤ (pos k))) (capped_self (suc size) small)
 
 -- at no places it is the decimal text
 whole_size : (size : ℕ) → shortest_size size 0 ≡ decimal size
@@ -173,16 +174,16 @@ pub shortest_whole : (v : ℤ) → shortest v 0 ≡ signed_decimal v
 shortest_whole (pos size) = whole_size size
 shortest_whole (negsuc size) = ap (λ (l : List ℕ). 45 ∷ l) (whole_size (suc size))
 
-whole_unsigned : (size : ℕ) → size ≤ 10 ^ 30 → (text : List ℕ) → behind_sign text ≡ decimal size → whole_of text ≡ Ok (held (has_minus text) size)
+whole_unsigned : (size : ℕ) → size ≤ largest → (text : List ℕ) → behind_sign text ≡ decimal size → whole_of text ≡ Ok (capped (has_minus text) size)
 whole_unsigned size small text e =
     let numeral : IsNumeral 10 (decimal size) × (digits_value 10 (decimal size) ≡ size) = decimal_is_IsNumeral_wide size (omega arith) in
-    whole_digits text (decimal size) e numeral.0.1 numeral.0.0 ∙ ap (λ x. Ok (held (has_minus text) x)) numeral.1
+    whole_digits text (decimal size) e numeral.0.1 numeral.0.0 ∙ ap (λ x. Ok (capped (has_minus text) x)) numeral.1
 
 -- reading the decimal text of a whole number gives it back
-pub decimal_reads : (v : ℤ) → unsigned_abs v ≤ 10 ^ 30 → whole_of (signed_decimal v) ≡ Ok v
+pub decimal_reads : (v : ℤ) → unsigned_abs v ≤ largest → whole_of (signed_decimal v) ≡ Ok v
 decimal_reads (pos size) small =
     let numeral : IsNumeral 10 (decimal size) × (digits_value 10 (decimal size) ≡ size) = decimal_is_IsNumeral_wide size (omega arith) in
     let u : Unsigned (decimal size) = subst (λ (l : List ℕ). Unsigned l) (append-nil (decimal size)) (unsigned_digits (decimal size) [] numeral.0.1 numeral.0.0) in
-    whole_unsigned size small (decimal size) u.rest ∙ ap (λ (b : Bool). Ok (held b size)) u.plus ∙ ap (λ k. Ok (pos k)) (held_self size small)
+    whole_unsigned size small (decimal size) u.rest ∙ ap (λ (b : Bool). Ok (capped b size)) u.plus ∙ ap (λ k. Ok (pos k)) (capped_self size small)
 decimal_reads (negsuc size) small =
-    whole_unsigned (suc size) small (45 ∷ decimal (suc size)) refl ∙ ap (λ k. Ok (neg_ℤ (pos k))) (held_self (suc size) small)
+    whole_unsigned (suc size) small (45 ∷ decimal (suc size)) refl ∙ ap (λ k. Ok (neg_ℤ (pos k))) (capped_self (suc size) small)

@@ -1,6 +1,7 @@
 -- Coordinates in units of 10^-10. This project's own.
-use Rattle.std.specs.Prelude.{ℕ, ℤ, Bool, ◌≤ℤ◌, int_le, ◌&&◌, if◌then◌else◌, List, Result, Ok, Err, pos, neg_ℤ}
-use Rattle.fixed_coord.specs.Held.{scaled_of}
+use Rattle.std.specs.Prelude.{ℕ, ℤ, ◌*◌, ◌^◌, Bool, ◌≤ℤ◌, int_le, ◌&&◌, if◌then◌else◌, List, Result, Ok, Err, pos, neg_ℤ}
+use Rattle.fixed_coord.specs.Limits.{most_coordinate}
+use Rattle.fixed_coord.specs.Scaled.{scaled_of}
 use Rattle.fixed_coord.specs.declared.fault.NumberFault.{NumberFault}
 use Rattle.fixed_coord.specs.declared.fault.NumberFault.TheVariants.{OutOfRange}
 
@@ -8,9 +9,9 @@ use Rattle.fixed_coord.specs.declared.fault.NumberFault.TheVariants.{OutOfRange}
 abbrev pub coord_places : ℕ
 coord_places = 10
 
--- 40,000,000 in units: no coordinate is further from zero
+-- the units of the greatest coordinate: none is further from zero
 abbrev pub farthest : ℕ
-farthest = 400000000000000000
+farthest = most_coordinate * 10 ^ coord_places
 
 -- a number of units that a coordinate may have
 pub record IsCoord (units : ℤ) : Type 0 where

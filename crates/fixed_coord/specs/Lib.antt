@@ -1,7 +1,9 @@
+pub mod Limits
 pub mod Round
 pub mod Number
-pub mod Held
+pub mod Scaled
 pub mod Whole
 pub mod Shortest
 pub mod Coordinate
-pub mod Side
+pub mod Turn
+pub mod Inner

@@ -1,9 +1,10 @@
 -- Number texts and the decimal fractions that they stand for. This project's own.
-use Rattle.std.specs.Prelude.{ℕ, ◌+◌, ◌*◌, ◌^◌, Bool, false, ◌==◌, ◌&&◌, ◌||◌, if◌then◌else◌, List, [], ◌∷◌, ◌++◌, length, drop, nat_lt, take_while, Option, Some, None, option_map}
+use Rattle.std.specs.Prelude.{ℕ, ◌+◌, ◌*◌, ◌^◌, nat_lt, Bool, false, ◌==◌, ◌&&◌, ◌||◌, if◌then◌else◌}
+use Rattle.std.specs.Prelude.{List, [], ◌∷◌, ◌++◌, length, drop, take_while, Option, Some, None, option_map}
 use Rattle.std.specs.List.{prefix_len}
 use Rattle.std.specs.Char.{is_ascii_digit}
 use Rattle.std.specs.Str.{all_ascii_digits}
-use Rattle.std.specs.Str.Parse.{digits_value, AllDigits}
+use Rattle.std.specs.Str.Parse.{digits_value}
 
 -- a number text in its parts: a sign, the digits before and behind the point, and an exponent with its sign
 pub record Parts : Type 0 where
@@ -48,10 +49,14 @@ abbrev pub behind_decimals : List ℕ → List ℕ
 behind_decimals [] = []
 behind_decimals (c ∷ cs) = if c == 46 then behind_digits cs else c ∷ cs
 
--- the exponent that a text is: nothing, or 'e' or 'E' with a sign or none and digits. It answers whether it goes down, and its digits
+-- the exponent that a text is: nothing, or 'e' or 'E' with a sign or none and digits.
+-- It answers whether it goes down, and its digits
 abbrev pub exponent_of : List ℕ → Option (Bool × List ℕ)
 exponent_of [] = Some (false, [])
-exponent_of (c ∷ cs) = if ((c == 101) || (c == 69)) && is_digits (behind_sign cs) then Some (has_minus cs, behind_sign cs) else None
+exponent_of (c ∷ cs) =
+    if ((c == 101) || (c == 69)) && is_digits (behind_sign cs)
+    then Some (has_minus cs, behind_sign cs)
+    else None
 
 -- the parts of a text, if it is a number text
 abbrev pub parts_of : List ℕ → Option Parts
@@ -59,15 +64,11 @@ parts_of text =
     let whole = digits_in_front (behind_sign text) in
     let rest = behind_digits (behind_sign text) in
     let fraction = decimals_in_front rest in
+    let with_exponent : Bool × List ℕ → Parts =
+    λ e. record { negative = has_minus text; whole = whole; fraction = fraction; down = e.0; power = e.1 } in
     if nat_lt 0 (length whole + length fraction)
-    then option_map (λ e. record { negative = has_minus text; whole = whole; fraction = fraction; down = e.0; power = e.1 }) (exponent_of (behind_decimals rest))
+    then option_map with_exponent (exponent_of (behind_decimals rest))
     else None
-
--- the digits of the parts are digits
-pub record IsSpelled (whole fraction power : List ℕ) : Type 0 where
-  pub before_point : AllDigits 10 whole
-  pub behind_point : AllDigits 10 fraction
-  pub exponent : AllDigits 10 power
 
 -- the fraction that the parts stand for
 abbrev pub fraction_of : Parts → Fraction

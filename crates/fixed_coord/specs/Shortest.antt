@@ -1,12 +1,14 @@
 -- The shortest decimal text of a number of units. This project's own.
-use Rattle.std.specs.Prelude.{ℕ, ℤ, zero, suc, length, ◌≡◌, ◌<◌, ◌*◌, ◌+◌, ◌^◌, ◌/◌, ◌%◌, ◌==◌, if◌then◌else◌, List, [], ◌∷◌, ◌++◌, pos, negsuc}
+use Rattle.std.specs.Prelude.{ℕ, ℤ, zero, suc, pos, negsuc, ◌≡◌, ◌<◌, ◌≤◌, ◌*◌, ◌+◌, ◌^◌, ◌/◌, ◌%◌}
+use Rattle.std.specs.Prelude.{◌==◌, if◌then◌else◌, List, [], ◌∷◌, ◌++◌, length}
 use Rattle.std.specs.Fmt.{decimal}
 use Rattle.std.specs.Str.Parse.{AllDigits, digits_value}
 
 -- the digits behind the point of `rest` units of 10^-places, as long as something is left
 abbrev pub decimals : ℕ → ℕ → List ℕ
 decimals zero rest = []
-decimals (suc places) rest = if rest == 0 then [] else (48 + rest / 10 ^ places) ∷ decimals places (rest % 10 ^ places)
+decimals (suc places) rest =
+    if rest == 0 then [] else (48 + rest / 10 ^ places) ∷ decimals places (rest % 10 ^ places)
 
 -- a point and those digits, or nothing where nothing is left
 abbrev pub point_and_decimals : ℕ → ℕ → List ℕ
@@ -31,3 +33,8 @@ pub record IsPlain (size places : ℕ) (whole fraction : List ℕ) : Type 0 wher
   pub whole_digits : AllDigits 10 whole
   pub decimal_digits : AllDigits 10 fraction
   pub value : digits_value 10 (whole ++ fraction) * 10 ^ places ≡ size * 10 ^ length fraction
+
+-- no plain text that stands for so many units of 10^-places is shorter than this one
+abbrev pub NoneIsShorter : ℕ → ℕ → List ℕ → Type 0
+NoneIsShorter size places text =
+    (whole fraction : List ℕ) → IsPlain size places whole fraction → length text ≤ length (plain_text whole fraction)

@@ -1,13 +1,13 @@
 -- The whole number that a number text stands for. This project's own.
 use Rattle.std.specs.Prelude.{ℕ, ℤ, ◌/◌, ◌%◌, ◌≤◌, ◌≡◌, ◌==◌, if◌then◌else◌, List, length, Result, Ok, Err, true}
 use Rattle.fixed_coord.specs.Number.{Fraction, parts_of, is_digits}
-use Rattle.fixed_coord.specs.Held.{held, read_by}
+use Rattle.fixed_coord.specs.Scaled.{capped, read_by}
 use Rattle.fixed_coord.specs.declared.fault.NumberFault.{NumberFault}
 use Rattle.fixed_coord.specs.declared.fault.NumberFault.TheVariants.{NotWhole}
 
--- a fraction that is whole, held, and a fault where it is not whole
+-- a fraction that is whole, capped, and a fault where it is not whole
 abbrev pub whole_fraction : Fraction → Result ℤ NumberFault
-whole_fraction f = if f.above % f.below == 0 then Ok (held f.negative (f.above / f.below)) else Err NotWhole
+whole_fraction f = if f.above % f.below == 0 then Ok (capped f.negative (f.above / f.below)) else Err NotWhole
 
 -- the whole number that a text stands for
 abbrev pub whole_of : List ℕ → Result ℤ NumberFault

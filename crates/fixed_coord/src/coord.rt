@@ -1,19 +1,14 @@
-// Coordinates in units of 10^-10.
+// Coordinates: made, read and written.
 ghost use Rattle.std.specs.Prelude.{◌≡◌, ◌++◌, OnErr, OnOk, SomeIff};
 ghost use Rattle.fixed_coord.specs.Coordinate.{IsCoord, coord_of, coord_places};
 ghost use Rattle.fixed_coord.specs.Shortest.{shortest};
 
-use super::fault::NumberFault;
-use super::read::scaled;
-use super::write::write_scaled;
+use crate::fault::NumberFault;
+use crate::limits::{COORD_PLACES, FARTHEST};
+use crate::read::scaled;
+use crate::write::write_scaled;
 use std::alloc::AllocError;
 use std::marker::Model;
-
-/// 40,000,000 in units: no coordinate is further from zero.
-const FARTHEST: i64 = 400_000_000_000_000_000;
-
-/// How many decimals a coordinate has.
-const PLACES: u32 = 10;
 
 /// A coordinate, from -40,000,000 to 40,000,000 in units of 10^-10. Contracts see its number of units.
 #[derive(Clone, Copy, Debug, PartialEq, Eq, PartialOrd, Ord)]
@@ -67,7 +62,7 @@ impl Coord {
     pub fn read(text: &[u8]) -> Result<Coord, NumberFault>
         ensures { result ≡ coord_of text.now }
     {
-        let units = scaled(text, PLACES)?;
+        let units = scaled(text, COORD_PLACES)?;
         if units < i128::from(-FARTHEST) || units > i128::from(FARTHEST) {
             Err(NumberFault::OutOfRange)
         } else {
@@ -82,6 +77,6 @@ impl Coord {
         ensures ok { OnOk result (out.new.items ≡ out.old.items ++ shortest self coord_places) }
         ensures err { OnErr result (out.new.items ≡ out.old.items) }
     {
-        write_scaled(i128::from(self.units), PLACES, out)
+        write_scaled(i128::from(self.units), COORD_PLACES, out)
     }
 }

@@ -1,5 +1,3 @@
-// Why a text is refused.
-
 /// Why a text isn't read as a number.
 #[derive(Clone, Copy, Debug, PartialEq, Eq)]
 pub enum NumberFault {

@@ -2,12 +2,14 @@
 #![tactic(auto)]
 
 mod coord;
+mod cut;
 mod fault;
-mod held;
 mod laws;
+mod limits;
 mod parts;
-mod plane;
 mod read;
+mod round;
+mod turn;
 mod write;
 
 pub use coord::Coord;
@@ -15,6 +17,8 @@ pub use fault::NumberFault;
 pub use laws::{
     reads_what_is_written, rounds_to_nearest, writes_the_shortest, writes_whole_numbers,
 };
-pub use plane::{ratio_round, side};
+pub use limits::{FARTHEST, MOST_CELLS, MOST_COORDINATE};
 pub use read::{scaled, short_whole, whole};
+pub use round::ratio_round;
+pub use turn::side;
 pub use write::write_scaled;

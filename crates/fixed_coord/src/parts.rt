@@ -3,9 +3,11 @@ ghost use Rattle.std.specs.Prelude.{◌≡◌, IfSome, MatchOption, None, Some};
 ghost use Rattle.std.specs.List.{prefix_len};
 ghost use Rattle.std.specs.Str.Parse.{AllDigits};
 ghost use Rattle.std.specs.Char.{is_ascii_digit};
-ghost use Rattle.fixed_coord.specs.Number.{behind_decimals, behind_digits, behind_sign, decimals_in_front, digits_in_front, exponent_of, has_minus, is_digits, parts_of, IsSpelled};
+ghost use Rattle.fixed_coord.specs.Number.{behind_decimals, behind_digits, behind_sign, decimals_in_front};
+ghost use Rattle.fixed_coord.specs.Number.{digits_in_front, exponent_of, has_minus, is_digits, parts_of};
+ghost use Rattle.fixed_coord.specs.Inner.Spelled.{IsSpelled, parts_in};
 
-/// The parts of a number text, each a piece of it.
+// The parts of a number text, each a piece of it.
 #[derive(Clone, Copy)]
 pub(crate) struct Parts<'a> {
     pub(crate) negative: bool,
@@ -15,7 +17,7 @@ pub(crate) struct Parts<'a> {
     pub(crate) power: &'a [u8],
 }
 
-/// The sign of a text, true where it is a minus, and what follows it.
+// The sign of a text, true where it is a minus, and what follows it.
 pub(crate) fn sign(text: &[u8]) -> (bool, &[u8])
     ensures minus { result.0 ≡ has_minus text.now }
     ensures rest { result.1.now ≡ behind_sign text.now }
@@ -27,21 +29,21 @@ pub(crate) fn sign(text: &[u8]) -> (bool, &[u8])
     }
 }
 
-/// How many digits a text begins with.
+// How many digits a text begins with.
 fn digit_count(text: &[u8]) -> usize
     ensures { result ≡ prefix_len is_ascii_digit text.now }
 {
     text.iter().take_while(|b| b.is_ascii_digit()).count()
 }
 
-/// Whether a text is digits and nothing else, at least one.
+// Whether a text is digits and nothing else, at least one.
 fn is_numeral(text: &[u8]) -> bool
     ensures { result ≡ is_digits text.now }
 {
     !text.is_empty() && digit_count(text) == text.len()
 }
 
-/// The digits that a text begins with, and what follows them.
+// The digits that a text begins with, and what follows them.
 fn digits(text: &[u8]) -> (&[u8], &[u8])
     ensures front { result.0.now ≡ digits_in_front text.now }
     ensures rest { result.1.now ≡ behind_digits text.now }
@@ -50,7 +52,7 @@ fn digits(text: &[u8]) -> (&[u8], &[u8])
     text.split_at(digit_count(text))
 }
 
-/// The digits behind a point that a text begins with, and what follows them.
+// The digits behind a point that a text begins with, and what follows them.
 fn decimals(text: &[u8]) -> (&[u8], &[u8])
     ensures front { result.0.now ≡ decimals_in_front text.now }
     ensures rest { result.1.now ≡ behind_decimals text.now }
@@ -62,7 +64,7 @@ fn decimals(text: &[u8]) -> (&[u8], &[u8])
     }
 }
 
-/// The exponent that a text is: whether it goes down, and its digits.
+// The exponent that a text is: whether it goes down, and its digits.
 fn exponent(text: &[u8]) -> Option<(bool, &[u8])>
     ensures value { MatchOption result (exponent_of text.now ≡ None) (λ e. exponent_of text.now ≡ Some (e.0, e.1.now)) }
     ensures digits { IfSome result (λ e. AllDigits 10 e.1.now) }
@@ -81,10 +83,10 @@ fn exponent(text: &[u8]) -> Option<(bool, &[u8])>
     }
 }
 
-/// The parts of a text, if it is a number text.
+// The parts of a text, if it is a number text.
 pub(crate) fn split(text: &[u8]) -> Option<Parts<'_>>
-    ensures value { MatchOption result (parts_of text.now ≡ None) (λ p. parts_of text.now ≡ Some (record { negative = p.negative; whole = p.whole.now; fraction = p.fraction.now; down = p.down; power = p.power.now })) }
-    ensures digits { IfSome result (λ p. IsSpelled p.whole.now p.fraction.now p.power.now) }
+    ensures value { MatchOption result (parts_of text.now ≡ None) (λ p. parts_of text.now ≡ Some (parts_in p)) }
+    ensures digits { IfSome result (λ p. IsSpelled (parts_in p)) }
 {
     let (negative, unsigned) = sign(text);
     let (whole, rest) = digits(unsigned);

@@ -2,30 +2,29 @@
 ghost use Rattle.std.specs.Prelude.{◌≡◌, ◌+◌, ◌/◌, ◌≤◌, ◌<◌, ◌^◌, ◌↔◌, IfSome, IsSome, Ok};
 ghost use Rattle.std.specs.Str.Parse.{digits_value};
 ghost use Rattle.fixed_coord.specs.Number.{behind_sign};
-ghost use Rattle.fixed_coord.specs.Held.{held, scaled_of};
+ghost use Rattle.fixed_coord.specs.Scaled.{capped, scaled_of};
+ghost use Rattle.fixed_coord.specs.Inner.Cut.{cap};
 ghost use Rattle.fixed_coord.specs.Whole.{IsShort, whole_of};
 
-use super::fault::NumberFault;
-use super::held::cut_at_point;
-use super::parts::{sign, split};
+use crate::cut::cut_at_point;
+use crate::fault::NumberFault;
+use crate::limits::LARGEST;
+use crate::parts::{sign, split};
 
-/// No number is read as more than this in size: 10^30.
-const MOST: u128 = 1_000_000_000_000_000_000_000_000_000_000;
-
-/// The most digits that any number of them fits `i64`.
+// Each number of so many digits fits `i64`.
 const SHORT: usize = 18;
 
-/// The number of this sign and size, its size held at 10^30.
+// The number of this sign and size, its size capped at the largest.
 fn signed(negative: bool, size: u128) -> i128
-    ensures { result ≡ held negative size }
+    ensures { result ≡ capped negative size }
 {
-    let size = size.min(MOST) as i128;
+    let size = size.min(LARGEST) as i128;
     if negative { -size } else { size }
 }
 
-/// A tenth, rounded half up. Most numbers are small, and a narrow division is the faster one.
+// A tenth, rounded half up. Most numbers are small, and a narrow division is the faster one.
 fn tenth(tenths: u128) -> u128
-    requires { tenths ≤ 10 ^ 32 }
+    requires { tenths ≤ cap }
     ensures { result ≡ (tenths + 5) / 10 }
 {
     if tenths < 1_000_000_000_000_000_000 {
@@ -35,8 +34,8 @@ fn tenth(tenths: u128) -> u128
     }
 }
 
-/// The number of units of 10^-places that a number text stands for, rounded half away from zero, and held between
-/// -10^30 and 10^30. The only fault is `NotNumber`, where the text isn't a number text.
+/// The number of units of 10^-places that a number text stands for, rounded half away from zero, and capped at
+/// 10^30 in size. The only fault is `NotNumber`, where the text isn't a number text.
 pub fn scaled(text: &[u8], places: u32) -> Result<i128, NumberFault>
     requires { places ≤ 10 }
     ensures { result ≡ scaled_of places text.now }
@@ -44,17 +43,11 @@ pub fn scaled(text: &[u8], places: u32) -> Result<i128, NumberFault>
     let Some(number) = split(text) else {
         return Err(NumberFault::NotNumber);
     };
-    let cut = cut_at_point(
-        number.whole,
-        number.fraction,
-        number.down,
-        number.power,
-        places + 1,
-    );
+    let cut = cut_at_point(number, places + 1);
     Ok(signed(number.negative, tenth(cut.front)))
 }
 
-/// The whole number that a number text stands for, held between -10^30 and 10^30. `NotNumber` where the text isn't
+/// The whole number that a number text stands for, capped at 10^30 in size. `NotNumber` where the text isn't
 /// a number text, then `NotWhole` where its value isn't whole.
 pub fn whole(text: &[u8]) -> Result<i128, NumberFault>
     ensures { result ≡ whole_of text.now }
@@ -65,7 +58,7 @@ pub fn whole(text: &[u8]) -> Result<i128, NumberFault>
     let Some(number) = split(text) else {
         return Err(NumberFault::NotNumber);
     };
-    let cut = cut_at_point(number.whole, number.fraction, number.down, number.power, 0);
+    let cut = cut_at_point(number, 0);
     if cut.behind == 0 {
         Ok(signed(number.negative, cut.front))
     } else {
@@ -73,8 +66,8 @@ pub fn whole(text: &[u8]) -> Result<i128, NumberFault>
     }
 }
 
-/// The whole number that a short text of digits, with a sign or none, stands for: what `whole` answers, by a faster way.
-/// `None` where the text has anything but digits behind its sign, none of them, or more than eighteen.
+/// The whole number that a short text of digits, with a sign or none, stands for: what `whole` answers, by a faster
+/// way. `None` where the text has anything but digits behind its sign, none of them, or more than eighteen.
 pub fn short_whole(text: &[u8]) -> Option<i64>
     ensures value { IfSome result (λ n. whole_of text.now ≡ Ok n) }
     ensures short { IsSome result ↔ IsShort (behind_sign text.now) }
@@ -84,7 +77,7 @@ pub fn short_whole(text: &[u8]) -> Option<i64>
     Some(if negative { -size } else { size })
 }
 
-/// The number that one to eighteen digits spell.
+// The number that one to eighteen digits spell.
 fn short_size(digits: &[u8]) -> Option<u64>
     ensures value { IfSome result (λ n. n ≡ digits_value 10 digits.now) }
     ensures small { IfSome result (λ n. n < 10 ^ 18) }

@@ -1,6 +1,7 @@
 // Writing the shortest text of a number of units.
 ghost use Rattle.std.specs.Prelude.{◌≡◌, ◌++◌, ◌/◌, ◌%◌, ◌^◌, ◌<◌, ◌≤◌, OnErr, OnOk, length, take, unsigned_abs};
 ghost use Rattle.std.specs.Fmt.{decimal};
+ghost use Rattle.fixed_coord.specs.Limits.{largest};
 ghost use Rattle.fixed_coord.specs.Shortest.{decimals, shortest, shortest_size};
 
 use itoa::Buffer;
@@ -11,7 +12,7 @@ use std::alloc::AllocError;
 /// `out` as it was.
 pub fn write_scaled(value: i128, places: u32, out: &mut Vec<u8>) -> Result<(), AllocError>
     requires places { places ≤ 10 }
-    requires size { unsigned_abs value ≤ 10 ^ 30 }
+    requires size { unsigned_abs value ≤ largest }
     ensures ok { OnOk result (out.new.items ≡ out.old.items ++ shortest value places) }
     ensures err { OnErr result (out.new.items ≡ out.old.items) }
 {
@@ -23,10 +24,10 @@ pub fn write_scaled(value: i128, places: u32, out: &mut Vec<u8>) -> Result<(), A
     written
 }
 
-/// The same, but a refusal leaves a part of the text.
+// The same, but a refusal leaves a part of the text.
 fn append_scaled(value: i128, places: u32, out: &mut Vec<u8>) -> Result<(), AllocError>
     requires places { places ≤ 10 }
-    requires size { unsigned_abs value ≤ 10 ^ 30 }
+    requires size { unsigned_abs value ≤ largest }
     ensures ok { OnOk result (out.new.items ≡ out.old.items ++ shortest value places) }
     ensures err { OnErr result (take (length out.old.items) out.new.items ≡ out.old.items) }
 {
@@ -36,10 +37,10 @@ fn append_scaled(value: i128, places: u32, out: &mut Vec<u8>) -> Result<(), Allo
     append_size(value.unsigned_abs(), places, out)
 }
 
-/// Appends the text of a size.
+// Appends the text of a size.
 fn append_size(size: u128, places: u32, out: &mut Vec<u8>) -> Result<(), AllocError>
     requires places { places ≤ 10 }
-    requires size { size ≤ 10 ^ 30 }
+    requires size { size ≤ largest }
     ensures ok { OnOk result (out.new.items ≡ out.old.items ++ shortest_size size places) }
     ensures err { OnErr result (take (length out.old.items) out.new.items ≡ out.old.items) }
 {
@@ -54,8 +55,8 @@ fn append_size(size: u128, places: u32, out: &mut Vec<u8>) -> Result<(), AllocEr
     Ok(())
 }
 
-/// The whole part of `size` units of `1 / scale`, and the units that are left. Most sizes are small, and a narrow
-/// division is the faster one.
+// The whole part of `size` units of `1 / scale`, and the units that are left. Most sizes are small, and a narrow
+// division is the faster one.
 fn split_size(size: u128, scale: u64) -> (u128, u64)
     requires { 0 < scale }
     ensures whole { result.0 ≡ size / scale }
@@ -70,7 +71,7 @@ fn split_size(size: u128, scale: u64) -> (u128, u64)
     }
 }
 
-/// Appends the decimals of `rest` units of 10^-places.
+// Appends the decimals of `rest` units of 10^-places.
 fn append_decimals(rest: u64, places: u32, out: &mut Vec<u8>) -> Result<(), AllocError>
     requires places { places ≤ 10 }
     requires rest { rest < 10 ^ places }

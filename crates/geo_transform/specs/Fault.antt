@@ -1,10 +1,12 @@
 -- Why numbers make no frame: the first fault that they have. This project's own.
-use Rattle.std.specs.Prelude.{ℤ, ◌*◌, Bool, true, ◌==◌, ◌&&◌, ◌||◌, not, nat_lt, int_le, if◌then◌else◌, List, [], ◌∷◌, Option, Some, None, Result, Ok, Err, pos}
+use Rattle.std.specs.Prelude.{◌*◌, pos, Bool, ◌==◌, ◌||◌, not, nat_lt, int_le, if◌then◌else◌}
+use Rattle.std.specs.Prelude.{List, [], ◌∷◌, Option, Some, None}
+use Rattle.std.specs.List.{list_all}
 use Rattle.std.specs.Ordering.{int_eq}
+use Rattle.fixed_coord.specs.Limits.{most_cells}
 use Rattle.fixed_coord.specs.Coordinate.{is_coord}
-use Rattle.geo_transform.specs.Layout.{Layout, most_cells, right_edge, upper_edge}
+use Rattle.geo_transform.specs.Layout.{Layout, right_edge, upper_edge}
 use Rattle.geo_transform.specs.declared.extent.Extent.{Extent}
-use Rattle.geo_transform.specs.declared.frame.Frame.{Frame}
 use Rattle.geo_transform.specs.declared.fault.FrameFault.{FrameFault}
 use Rattle.geo_transform.specs.declared.fault.FrameFault.TheVariants.{BadSize, TooLarge, BadCell, NotSquare, OutOfRange}
 
@@ -21,17 +23,13 @@ has_flat_cells l = int_le l.width (pos 0) || int_le l.height (pos 0)
 abbrev pub has_oblong_cells : Layout → Bool
 has_oblong_cells l = not (int_eq l.width l.height)
 
--- each is a number of units that a coordinate can have
-abbrev pub all_coords : List ℤ → Bool
-all_coords [] = true
-all_coords (z ∷ zs) = is_coord z && all_coords zs
-
 -- no cell's size and no edge is past 40,000,000
-abbrev pub reaches : Layout → Bool
-reaches l = all_coords (l.width ∷ l.height ∷ l.left ∷ l.lower ∷ right_edge l ∷ upper_edge l ∷ [])
+abbrev pub is_in_range : Layout → Bool
+is_in_range l =
+    list_all is_coord (l.width ∷ l.height ∷ l.left ∷ l.lower ∷ right_edge l ∷ upper_edge l ∷ [])
 
 abbrev pub is_too_far : Layout → Bool
-is_too_far l = not (reaches l)
+is_too_far l = not (is_in_range l)
 
 -- the first fault whose test holds
 abbrev pub first_that_holds : List (Bool × FrameFault) → Option FrameFault
@@ -50,22 +48,6 @@ fault_of l =
     ∷ []
     )
 
--- the frame of these numbers
-abbrev pub frame_of : Layout → Frame
-frame_of l = record { ncols = l.ncols; nrows = l.nrows; xll = l.left; yll = l.lower; cell = l.width }
-
-abbrev pub unless : Option FrameFault → Frame → Result Frame FrameFault
-unless None frame = Ok frame
-unless (Some fault) frame = Err fault
-
--- the frame of these numbers, or their first fault
-abbrev pub framed : Layout → Result Frame FrameFault
-framed l = unless (fault_of l) (frame_of l)
-
 -- an extent without width or height
 abbrev pub is_empty : Extent → Bool
 is_empty e = int_le e.xmax e.xmin || int_le e.ymax e.ymin
-
--- the same of an extent that is cut, which is of bad size too where it is empty
-abbrev pub framed_in : Extent → Layout → Result Frame FrameFault
-framed_in e l = if is_empty e then Err BadSize else framed l

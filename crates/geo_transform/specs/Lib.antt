@@ -1,3 +1,5 @@
 pub mod Layout
 pub mod Fault
-pub mod Place
+pub mod Frame
+pub mod Corner
+pub mod Inner

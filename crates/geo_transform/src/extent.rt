@@ -1,4 +1,3 @@
-// A rectangle of the plane.
 use fixed_coord::Coord;
 
 /// A rectangle along the axes, by its edges.

@@ -1,5 +1,3 @@
-// Why numbers make no frame.
-
 /// Why numbers make no frame. Of several the first in this order is the answer.
 #[derive(Clone, Copy, Debug, PartialEq, Eq)]
 pub enum FrameFault {

@@ -1,21 +1,19 @@
 // Frames, and the three ways to make one.
-ghost use Rattle.std.specs.Prelude.{◌≡◌, ◌<◌, ◌≤◌, ◌*◌, ◌^◌, ◌<ℤ◌, IfOk, pos, unsigned_abs, ◌-ℤ◌, ◌+ℤ◌, ◌*ℤ◌, if◌then◌else◌, MatchResult, Some, Ok, Err};
+ghost use Rattle.std.specs.Prelude.{◌≡◌, ◌<◌, ◌≤◌, ◌*◌, ◌^◌, ◌<ℤ◌, ◌-ℤ◌, ◌+ℤ◌, ◌*ℤ◌, pos, unsigned_abs};
+ghost use Rattle.std.specs.Prelude.{if◌then◌else◌, IfErr, IfOk, OnOk, Ok, Err};
+ghost use Rattle.std.specs.List.{list_all};
 ghost use Rattle.fixed_coord.specs.Coordinate.{IsCoord, is_coord};
 ghost use Rattle.fixed_coord.specs.Round.{round_half_away};
-ghost use Rattle.geo_transform.specs.Layout.{IsSpan, Layout, layout_by_cell, layout_by_size, most_cells, steps_in};
-ghost use Rattle.geo_transform.specs.Fault.{all_coords, fault_of, framed, framed_in, is_empty, reaches};
-ghost use Rattle.geo_transform.specs.declared.fault.FrameFault.TheVariants.{BadSize, OutOfRange};
-ghost use Rattle.geo_transform.specs.Place.{IsFrame};
+ghost use Rattle.geo_transform.specs.Layout.{layout_by_cell, layout_by_size, square_layout, steps_in};
+ghost use Rattle.geo_transform.specs.Fault.{is_empty, is_in_range};
+ghost use Rattle.geo_transform.specs.Frame.{IsFrame, frame_or_fault, frame_or_fault_in};
+ghost use Rattle.geo_transform.specs.Inner.GridSize.{IsFaultOfSize, IsGridSize};
+ghost use Rattle.geo_transform.specs.Inner.Span.{IsSpan};
+ghost use Rattle.geo_transform.specs.declared.fault.FrameFault.TheVariants.{BadSize};
 
-use super::extent::Extent;
-use super::fault::FrameFault;
-use fixed_coord::{Coord, ratio_round};
-
-/// The most cells that a frame may have.
-const MOST_CELLS: u128 = 16_777_216;
-
-/// 40,000,000 in units: no coordinate is further from zero.
-const FARTHEST: i128 = 400_000_000_000_000_000;
+use crate::extent::Extent;
+use crate::fault::FrameFault;
+use fixed_coord::{Coord, FARTHEST, MOST_CELLS, ratio_round};
 
 /// Where the cells of a grid lie: the left and the lower edge, and the size of the square cells. Calls that take a
 /// frame ask for one whose numbers `Frame::make` accepts.
@@ -39,12 +37,12 @@ impl Frame {
         yll: Coord,
         cell: Coord,
     ) -> Result<Frame, FrameFault>
-        ensures answer { result ≡ framed (record { ncols = ncols; nrows = nrows; left = xll; lower = yll; width = cell; height = cell }) }
+        ensures answer { result ≡ frame_or_fault (square_layout ncols nrows xll yll cell) }
         ensures frame { IfOk result (λ f. IsFrame f) }
     {
         check_size(u64::from(ncols), u64::from(nrows))?;
         let size = i128::from(cell.units());
-        place(
+        counted_frame(
             ncols,
             nrows,
             i128::from(xll.units()),
@@ -60,7 +58,7 @@ impl Frame {
     /// 16,777,216, `BadCell` where a rounded size is 0, `NotSquare` where the two differ, `OutOfRange` where a rounded
     /// size or an edge is past 40,000,000 in size: the first in this order.
     pub fn from_extent_size(extent: &Extent, ncols: u32, nrows: u32) -> Result<Frame, FrameFault>
-        ensures answer { result ≡ framed_in extent.now (layout_by_size extent.now ncols nrows) }
+        ensures answer { result ≡ frame_or_fault_in extent.now (layout_by_size extent.now ncols nrows) }
         ensures frame { IfOk result (λ f. IsFrame f) }
     {
         let (length, depth) = spans(extent)?;
@@ -69,7 +67,7 @@ impl Frame {
         let width = share(length, ncols);
         let height = share(depth, nrows);
         let lower = lower_edge(extent.ymax, rows, height);
-        place(
+        counted_frame(
             ncols,
             nrows,
             i128::from(extent.xmin.units()),
@@ -87,7 +85,7 @@ impl Frame {
     pub fn from_extent_cell(extent: &Extent, xres: Coord, yres: Coord) -> Result<Frame, FrameFault>
         requires width { pos 0 <ℤ xres }
         requires height { pos 0 <ℤ yres }
-        ensures answer { result ≡ framed_in extent.now (layout_by_cell extent.now xres yres) }
+        ensures answer { result ≡ frame_or_fault_in extent.now (layout_by_cell extent.now xres yres) }
         ensures frame { IfOk result (λ f. IsFrame f) }
     {
         let (across, down) = spans(extent)?;
@@ -97,7 +95,7 @@ impl Frame {
         let width = i128::from(xres.units());
         let height = i128::from(yres.units());
         let lower = lower_edge(extent.ymax, nrows, height);
-        place(
+        counted_frame(
             ncols as u32,
             nrows as u32,
             i128::from(extent.xmin.units()),
@@ -108,9 +106,10 @@ impl Frame {
     }
 }
 
-/// The width and the height of an extent, where it has them.
+// The width and the height of an extent, where it has them.
 fn spans(extent: &Extent) -> Result<(i64, i64), FrameFault>
-    ensures fault { result ≡ (if is_empty extent.now then Err BadSize else Ok (extent.now.xmax -ℤ extent.now.xmin, extent.now.ymax -ℤ extent.now.ymin)) }
+    ensures fault { let e = extent.now in
+        result ≡ (if is_empty e then Err BadSize else Ok (e.xmax -ℤ e.xmin, e.ymax -ℤ e.ymin)) }
     ensures range { IfOk result (λ s. IsSpan s.0 × IsSpan s.1) }
 {
     let across = extent.xmax.units() - extent.xmin.units();
@@ -124,7 +123,7 @@ fn spans(extent: &Extent) -> Result<(i64, i64), FrameFault>
     Ok((across, down))
 }
 
-/// A part of so many equal ones of a span, rounded half away.
+// A part of so many equal ones of a span, rounded half away.
 fn share(span: i64, count: u32) -> i128
     requires span { IsSpan span }
     requires count { 0 < count }
@@ -134,7 +133,7 @@ fn share(span: i64, count: u32) -> i128
     ratio_round(i128::from(span), i128::from(count))
 }
 
-/// The lower edge under so many rows of a height.
+// The lower edge under so many rows of a height.
 fn lower_edge(upper: Coord, count: u64, height: i128) -> i128
     requires { unsigned_abs height ≤ 10 ^ 18 }
     ensures value { result ≡ upper -ℤ pos count *ℤ height }
@@ -143,7 +142,7 @@ fn lower_edge(upper: Coord, count: u64, height: i128) -> i128
     i128::from(upper.units()) - times(count, height)
 }
 
-/// The edge behind so many columns or rows of a size.
+// The edge behind so many columns or rows of a size.
 fn far_edge(start: i128, count: u32, size: i128) -> i128
     requires start { unsigned_abs start ≤ 10 ^ 38 }
     requires size { unsigned_abs size ≤ 10 ^ 18 }
@@ -152,7 +151,7 @@ fn far_edge(start: i128, count: u32, size: i128) -> i128
     start + times(u64::from(count), size)
 }
 
-/// The coordinate of so many units, which a coordinate can have.
+// The coordinate of so many units, which a coordinate can have.
 fn coord(units: i128) -> Coord
     requires { IsCoord units }
     ensures { result ≡ units }
@@ -160,7 +159,7 @@ fn coord(units: i128) -> Coord
     Coord::of_units(units as i64)
 }
 
-/// How many steps go into a length, rounded half up and at least one.
+// How many steps go into a length, rounded half up and at least one.
 fn steps(length: i64, step: i64) -> u64
     requires length { IsSpan length }
     requires step { IsSpan step }
@@ -172,22 +171,23 @@ fn steps(length: i64, step: i64) -> u64
     ((2 * length + step) / (2 * step)).max(1)
 }
 
-/// Whether there are cells, and not too many.
+// Whether there are cells, and not too many.
 fn check_size(ncols: u64, nrows: u64) -> Result<(), FrameFault>
-    ensures { MatchResult result (λ _. (0 < ncols) × (0 < nrows) × (ncols * nrows ≤ most_cells)) (λ f. (l : Layout) → l.ncols ≡ ncols → l.nrows ≡ nrows → fault_of l ≡ Some f) }
+    ensures ok { OnOk result (IsGridSize ncols nrows) }
+    ensures fault { IfErr result (IsFaultOfSize ncols nrows) }
 {
     if ncols == 0 || nrows == 0 {
         return Err(FrameFault::BadSize);
     }
     let product = u128::from(ncols) * u128::from(nrows);
-    if product > MOST_CELLS {
+    if product > u128::from(MOST_CELLS) {
         Err(FrameFault::TooLarge(product))
     } else {
         Ok(())
     }
 }
 
-/// So many times a size.
+// So many times a size.
 fn times(count: u64, size: i128) -> i128
     requires { unsigned_abs size ≤ 10 ^ 18 }
     ensures value { result ≡ pos count *ℤ size }
@@ -196,40 +196,43 @@ fn times(count: u64, size: i128) -> i128
     i128::from(count) * size
 }
 
-/// Whether a coordinate can have so many units.
+// Whether a coordinate can have so many units.
 fn is_within(units: i128) -> bool
     ensures { result ≡ is_coord units }
 {
-    (-FARTHEST..=FARTHEST).contains(&units)
+    let most = i128::from(FARTHEST);
+    (-most..=most).contains(&units)
 }
 
-/// Whether each of these numbers of units is one that a coordinate can have.
+// Whether each of these numbers of units is one that a coordinate can have.
 fn are_within(units: &[i128]) -> bool
-    ensures { result ≡ all_coords units.now }
+    ensures { result ≡ list_all is_coord units.now }
 {
-    for n in units {
-        if !is_within(*n) {
-            return false;
-        }
-    }
-    true
+    units.iter().all(|n| is_within(*n))
 }
 
-/// Whether the cells' sizes and the edges are all ones that a coordinate can have.
-fn is_reached(ncols: u32, nrows: u32, left: i128, lower: i128, width: i128, height: i128) -> bool
+// Whether the cells' sizes and the edges are all ones that a coordinate can have.
+fn is_in_range(ncols: u32, nrows: u32, left: i128, lower: i128, width: i128, height: i128) -> bool
     requires left { unsigned_abs left ≤ 10 ^ 38 }
     requires lower { unsigned_abs lower ≤ 10 ^ 38 }
     requires width { unsigned_abs width ≤ 10 ^ 18 }
     requires height { unsigned_abs height ≤ 10 ^ 18 }
-    ensures { result ≡ reaches (record { ncols = ncols; nrows = nrows; left = left; lower = lower; width = width; height = height }) }
+    ensures { result ≡ is_in_range (record {
+      ncols = ncols;
+      nrows = nrows;
+      left = left;
+      lower = lower;
+      width = width;
+      height = height;
+    }) }
 {
     let right = far_edge(left, ncols, width);
     let upper = far_edge(lower, nrows, height);
     are_within(&[width, height, left, lower, right, upper])
 }
 
-/// The frame of these numbers, of which the counts are known to be good.
-fn place(
+// The frame of these numbers, of which the counts are known to be good.
+fn counted_frame(
     ncols: u32,
     nrows: u32,
     left: i128,
@@ -237,14 +240,19 @@ fn place(
     width: i128,
     height: i128,
 ) -> Result<Frame, FrameFault>
-    requires some_cols { 0 < ncols }
-    requires some_rows { 0 < nrows }
-    requires few_cells { ncols * nrows ≤ most_cells }
+    requires counts { IsGridSize ncols nrows }
     requires left { unsigned_abs left ≤ 10 ^ 38 }
     requires lower { unsigned_abs lower ≤ 10 ^ 38 }
     requires width { unsigned_abs width ≤ 10 ^ 18 }
     requires height { unsigned_abs height ≤ 10 ^ 18 }
-    ensures answer { result ≡ framed (record { ncols = ncols; nrows = nrows; left = left; lower = lower; width = width; height = height }) }
+    ensures answer { result ≡ frame_or_fault (record {
+      ncols = ncols;
+      nrows = nrows;
+      left = left;
+      lower = lower;
+      width = width;
+      height = height;
+    }) }
     ensures frame { IfOk result (λ f. IsFrame f) }
 {
     if width <= 0 || height <= 0 {
@@ -253,7 +261,7 @@ fn place(
     if width != height {
         return Err(FrameFault::NotSquare);
     }
-    if !is_reached(ncols, nrows, left, lower, width, height) {
+    if !is_in_range(ncols, nrows, left, lower, width, height) {
         return Err(FrameFault::OutOfRange);
     }
     Ok(Frame {

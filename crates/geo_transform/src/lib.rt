@@ -1,11 +1,11 @@
 //! Frames: where the cells of a grid lie in the plane.
 #![tactic(auto)]
 
+mod corner;
 mod extent;
 mod fault;
 mod frame;
 mod laws;
-mod place;
 
 pub use extent::Extent;
 pub use fault::FrameFault;

@@ -4,7 +4,7 @@ use Rattle.std.specs.Fmt.{signed_decimal}
 use Rattle.std.proofs.lemmas.List.{get_or_default}
 use Rattle.fixed_coord.proofs.ShortestLemmas.{shortest_whole}
 use Rattle.asc_grid.specs.Appended.{AppendsPart}
-use Rattle.asc_grid.specs.Canonical.{row_rest}
+use Rattle.asc_grid.specs.Inner.Rest.{row_rest}
 use Rattle.asc_grid.proofs.WriteLemmas.{appends_cell, appends_cell_alone, appends_part_then, appends_then, row_rest-cell}
 use Rattle.asc_grid.proofs.write.append_cells.Goals as goal
 

@@ -1,6 +1,6 @@
 use Rattle.std.proofs.Common.{◌≤◌, ◌-◌, drop, length}
 use Rattle.asc_grid.specs.Appended.{Appends}
-use Rattle.asc_grid.specs.Canonical.{row_rest}
+use Rattle.asc_grid.specs.Inner.Rest.{row_rest}
 use Rattle.asc_grid.proofs.write.append_cells.Given as goal
 
 -- the cells before the column were appended

@@ -1,6 +1,6 @@
 use Rattle.std.proofs.Common.{◌≡◌, ◌+◌, ◌≤◌, length, add-one, arith}
 use Rattle.asc_grid.specs.Appended.{Appends, AppendsPart}
-use Rattle.asc_grid.specs.Canonical.{rows_rest}
+use Rattle.asc_grid.specs.Inner.Rest.{rows_rest}
 use Rattle.asc_grid.proofs.WriteLemmas.{appends_before, appends_nothing, appends_part_before, appends_part_then, appends_then, rows_rest-next, rows_rest-row, rows_rest-end}
 use Rattle.asc_grid.proofs.write.append_rows.Goals as goal
 
@@ -36,8 +36,8 @@ loop-row-preserved c =
     let from = rows_rest-row rows c.loop-row.row c.loop-row.col cells c.row.ensures.cells in
     let to = rows_rest-row rows c.loop-row.row c.in_ok-col.col cells c.row.ensures.cells in
     let step : Appends c.loop-row.out.items c.append_cells.new.out.items (rows_rest rows c.loop-row.row c.loop-row.col) (rows_rest rows c.loop-row.row c.in_ok-col.col) = rw (from, to) (appends_before _ _ _ _ _ c.in_ok-col.ensures.ok) in
-    let whole : c.in_ok-col.col ≡ length cells = omega (arith, c.in_ok-col.ensures.within, c.row.ensures.width, c.if-col-ncols.false, c.ncols.ensures.value) in
-    let next : rows_rest rows c.loop-row.row c.in_ok-col.col ≡ rows_rest rows (c.loop-row.row + 1) 0 = rw (whole, add-one) (rows_rest-next _ rows c.loop-row.row cells shape.some_cols shape.width c.row.ensures.cells) in
+    let all : c.in_ok-col.col ≡ length cells = omega (arith, c.in_ok-col.ensures.within, c.row.ensures.width, c.if-col-ncols.false, c.ncols.ensures.value) in
+    let next : rows_rest rows c.loop-row.row c.in_ok-col.col ≡ rows_rest rows (c.loop-row.row + 1) 0 = rw (all, add-one) (rows_rest-next _ rows c.loop-row.row cells shape.some_cols shape.width c.row.ensures.cells) in
     record {
       col = shape.some_cols;
       text = rw (← next) (appends_then _ _ _ _ _ _ c.loop-row.invariant.text step);

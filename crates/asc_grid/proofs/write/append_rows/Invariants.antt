@@ -1,6 +1,6 @@
 use Rattle.std.proofs.Common.{◌<◌}
 use Rattle.asc_grid.specs.Appended.{Appends}
-use Rattle.asc_grid.specs.Canonical.{rows_rest}
+use Rattle.asc_grid.specs.Inner.Rest.{rows_rest}
 use Rattle.asc_grid.proofs.write.append_rows.Given as goal
 
 -- the rows so far were appended

@@ -1,5 +1,5 @@
-use Rattle.fixed_coord.proofs.FewestLemmas.{shortest_IsShortest}
+use Rattle.fixed_coord.proofs.FewestLemmas.{shortest_size-NoneIsShorter}
 use Rattle.fixed_coord.proofs.laws.writes_the_shortest.Goals as goal
 
 pub returns : goal.returns
-returns c = shortest_IsShortest
+returns c = shortest_size-NoneIsShorter

@@ -1,6 +1,6 @@
 use Rattle.std.proofs.Common.{arith, ◌≡◌, ◌<◌, ◌+◌, ◌-◌, ◌/◌, ◌%◌, ◌^◌, ◌++◌, List, ℕ, ap, ◌∙◌, sym, append-nil, take, length, ◌∷◌, []}
 use Rattle.fixed_coord.specs.Shortest.{decimals}
-use Rattle.fixed_coord.proofs.KeptLemmas.{pow10_pos}
+use Rattle.fixed_coord.proofs.CutLemmas.{pow10_pos}
 use Rattle.fixed_coord.proofs.WriteLemmas.{decimals_none, some_left, scale_down, digit_pushed, still_front}
 use Rattle.fixed_coord.proofs.write.append_decimals.Goals as goal
 

@@ -1,6 +1,6 @@
 use Rattle.std.proofs.Common.{arith, ◌≡◌, ◌%◌, ◌∙◌, ap, rules, List, ℕ, take, length, ◌∷◌, []}
 use Rattle.std.proofs.Math.Seq.{take-append_seam}
-use Rattle.fixed_coord.proofs.KeptLemmas.{pow10_pos}
+use Rattle.fixed_coord.proofs.CutLemmas.{pow10_pos}
 use Rattle.fixed_coord.proofs.WriteLemmas.{front_of_front, still_front}
 use Rattle.fixed_coord.proofs.write.append_size.Goals as goal
 

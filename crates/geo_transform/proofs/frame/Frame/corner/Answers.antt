@@ -1,5 +1,5 @@
 use Rattle.std.proofs.Common.{arith, ◌-◌}
-use Rattle.geo_transform.proofs.PlaceLemmas.{between}
+use Rattle.geo_transform.proofs.CornerLemmas.{between}
 use Rattle.geo_transform.proofs.frame.Frame.corner.Goals as goal
 
 pub along-requires-2 : goal.along-requires-2

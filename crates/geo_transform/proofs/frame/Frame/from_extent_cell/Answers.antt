@@ -3,20 +3,19 @@ use Rattle.std.specs.Int.{w128}
 use Rattle.std.proofs.lemmas.Int.{ints}
 use Rattle.std.proofs.lemmas.Result.{err_from_is_err_and}
 use Rattle.geo_transform.specs.Layout.{Layout, layout_by_cell, steps_in}
-use Rattle.geo_transform.specs.Fault.{framed, is_empty}
+use Rattle.geo_transform.specs.Fault.{is_empty}
+use Rattle.geo_transform.specs.Frame.{frame_or_fault}
 use Rattle.geo_transform.proofs.FaultLemmas.{refused, small_counts, full_spans, framed_full, by_cell}
 use Rattle.geo_transform.proofs.frame.Frame.from_extent_cell.Goals as goal
 
 pub overflow_cast-ncols : goal.overflow_cast-ncols
 overflow_cast-ncols c =
-    let e = c.in_ok-check_size.ensures in
-    let s = small_counts c.steps-ncols.result c.steps-nrows.result e.0 e.1 e.2 in
+    let s = small_counts c.steps-ncols.result c.steps-nrows.result c.in_ok-check_size.ensures.ok in
     omega (arith, s.0)
 
 pub overflow_cast-nrows : goal.overflow_cast-nrows
 overflow_cast-nrows c =
-    let e = c.in_ok-check_size.ensures in
-    let s = small_counts c.steps-ncols.result c.steps-nrows.result e.0 e.1 e.2 in
+    let s = small_counts c.steps-ncols.result c.steps-nrows.result c.in_ok-check_size.ensures.ok in
     omega (arith, s.1)
 
 pub returns-in_err-check_size-clause-answer : goal.returns-in_err-check_size-clause-answer
@@ -33,7 +32,7 @@ returns-in_err-check_size-clause-answer c =
     let rows : c.steps-nrows.result ≡ steps_in (e.ymax -ℤ e.ymin) c.args.yres =
     c.steps-nrows.ensures.value ∙ ap (λ z. steps_in z (to_z w64 (of_z w64 c.units-2.result))) (down ∙ full.2) ∙ ap (λ z. steps_in (e.ymax -ℤ e.ymin) z) y in
     let p = err_from_is_err_and c.from_residual-in_err-check_size.result c.from_residual-in_err-check_size.ensures.1 in
-    rw (p.1, p.2) (sym (framed_full e l full.0 ∙ refused l _ (c.in_err-check_size.ensures l (sym cols) (sym rows))))
+    rw (p.1, p.2) (sym (framed_full e l full.0 ∙ refused l _ (c.in_err-check_size.ensures.fault l (sym cols) (sym rows))))
 
 pub returns-clause-answer : goal.returns-clause-answer
 returns-clause-answer c =
@@ -52,6 +51,6 @@ returns-clause-answer c =
     let width : to_z w128 (of_z w128 c.from-width.result) ≡ c.args.xres = omega (arith, ints) in
     let height : to_z w128 (of_z w128 c.from-height.result) ≡ c.args.yres = omega (arith, ints) in
     let lower : to_z w128 (of_z w128 c.lower_edge-lower.result) ≡ e.ymax -ℤ pos c.steps-nrows.result *ℤ to_z w128 (of_z w128 c.from-height.result) = b ∙ c.lower_edge-lower.ensures.value in
-    c.place.ensures.answer
-    ∙ ap framed (by_cell e c.steps-ncols.result c.steps-nrows.result _ _ _ _ c.args.xres c.args.yres cols rows left lower width height)
+    c.counted_frame.ensures.answer
+    ∙ ap frame_or_fault (by_cell e c.steps-ncols.result c.steps-nrows.result _ _ _ _ c.args.xres c.args.yres cols rows left lower width height)
     ∙ sym (framed_full e (layout_by_cell e c.args.xres c.args.yres) full.0)

@@ -1,6 +1,0 @@
-use Rattle.std.proofs.Common.{arith, ◌^◌}
-use Rattle.fixed_coord.proofs.KeptLemmas.{one_zero_more}
-use Rattle.fixed_coord.proofs.held.with_zeros.Goals as goal
-
-pub loop-step-preserved : goal.loop-step-preserved
-loop-step-preserved c = one_zero_more c.args.number c.loop-step._step c.loop-step.size c.min-size.result (10 ^ 32) (omega arith) c.loop-step.invariant c.min-size.ensures

@@ -1,0 +1,3 @@
+pub mod GridSize
+pub mod Span
+pub mod Way
