@@ -1,4 +1,6 @@
-pub mod NumberLemmas
+pub mod CursorLemmas
 pub mod TokenLemmas
 pub mod WriteLemmas
-mod PlainExamples
+pub mod HeaderLemmas
+pub mod HalfLemmas
+pub mod LayoutLemmas

@@ -1,11 +1,10 @@
 -- Texts that are appended part by part.
-use Rattle.std.proofs.Common.{◌≡◌, ℕ, zero, suc, false, ◌<◌, ◌≤◌, ℤ, List, [], ◌∷◌, ◌++◌, length, drop, get_or, refl, sym, ap, ◌∙◌, arith, append-nil, append_assoc}
+use Rattle.std.proofs.Common.{◌≡◌, ℕ, zero, suc, false, ◌<◌, ◌≤◌, List, [], ◌∷◌, ◌++◌, length, drop, get_or, refl, sym, ap, ◌∙◌, arith, append-nil, append_assoc}
 use Rattle.std.specs.Prelude.{◌==◌, if◌then◌else◌, map}
 use Rattle.std.specs.Prelude.{All, Some, slice_get}
 use Rattle.std.specs.List.{flat_map, join_with_byte}
 use Rattle.std.proofs.lemmas.List.{drop_all}
 use Rattle.std.proofs.lemmas.Option.{none-some, same_Some}
-use Rattle.std.specs.Fmt.{signed_decimal}
 use Rattle.std.proofs.lemmas.Bool.Decides.{nat_tests}
 use Rattle.asc_grid.specs.Appended.{Appends, AppendsPart}
 use Rattle.asc_grid.specs.Canonical.{row_text}
@@ -26,15 +25,15 @@ pub appends_part_then : (before mid now text part : List ℕ) → Appends before
 appends_part_then before mid now text part first second = (second.0, appends_then before mid now text part second.0 first second.1)
 
 -- a cell's text, what stands behind it, and the rest of its row
-pub row_rest-cell : (row : List ℤ) (col : ℕ) (cell : ℤ) → col < length row → cell ≡ get_or row col cell → row_rest (drop col row) ≡ signed_decimal cell ++ (if (suc col) == length row then 10 else 32) ∷ row_rest (drop (suc col) row)
-row_rest-cell [] col cell within is = absurd (omega (arith, within))
-row_rest-cell (x ∷ []) zero cell within is = rw is refl
-row_rest-cell (x ∷ y ∷ row) zero cell within is =
+pub row_rest-cell : {T : Type 0} (spell : T → List ℕ) (row : List T) (col : ℕ) (cell : T) → col < length row → cell ≡ get_or row col cell → row_rest spell (drop col row) ≡ spell cell ++ (if (suc col) == length row then 10 else 32) ∷ row_rest spell (drop (suc col) row)
+row_rest-cell spell [] col cell within is = absurd (omega (arith, within))
+row_rest-cell spell (x ∷ []) zero cell within is = rw is refl
+row_rest-cell spell (x ∷ y ∷ row) zero cell within is =
     let more : ((suc 0) == suc (suc (length row))) ≡ false = grind (arith, nat_tests) in
-    rw (is, more) (append_assoc (signed_decimal x) (32 ∷ join_with_byte 32 (map signed_decimal (y ∷ row))) (10 ∷ []))
-row_rest-cell (x ∷ row) (suc col) cell within is =
+    rw (is, more) (append_assoc (spell x) (32 ∷ join_with_byte 32 (map spell (y ∷ row))) (10 ∷ []))
+row_rest-cell spell (x ∷ row) (suc col) cell within is =
     let same : ((suc (suc col)) == suc (length row)) ≡ ((suc col) == length row) = grind (arith, nat_tests) in
-    rw same (row_rest-cell row col cell (omega (arith, within)) is)
+    rw same (row_rest-cell spell row col cell (omega (arith, within)) is)
 
 -- a cell and what stands behind it
 pub appends_cell : (before mid now text cell rest : List ℕ) (byte : ℕ) → mid ≡ before ++ cell → now ≡ mid ++ byte ∷ [] → text ≡ cell ++ byte ∷ rest → Appends before now text rest
@@ -53,29 +52,29 @@ pub appends_part_before : (before now text more : List ℕ) → AppendsPart befo
 appends_part_before before now text more some = (some.0 ++ more, appends_before before now text some.0 more some.1)
 
 -- the rest of a row stands before the rows behind it
-pub rows_rest-row : (rows : List (List ℤ)) (row col : ℕ) (cells : List ℤ) → slice_get rows row ≡ Some cells → rows_rest rows row col ≡ row_rest (drop col cells) ++ flat_map row_text (drop (suc row) rows)
-rows_rest-row [] row col cells is = absurd (none-some cells is)
-rows_rest-row (first ∷ rows) zero col cells is = rw (same_Some first cells is) refl
-rows_rest-row (first ∷ rows) (suc row) col cells is = rows_rest-row rows row col cells is
+pub rows_rest-row : {T : Type 0} (spell : T → List ℕ) (rows : List (List T)) (row col : ℕ) (cells : List T) → slice_get rows row ≡ Some cells → rows_rest spell rows row col ≡ row_rest spell (drop col cells) ++ flat_map (row_text spell) (drop (suc row) rows)
+rows_rest-row spell [] row col cells is = absurd (none-some cells is)
+rows_rest-row spell (first ∷ rows) zero col cells is = rw (same_Some first cells is) refl
+rows_rest-row spell (first ∷ rows) (suc row) col cells is = rows_rest-row spell rows row col cells is
 
 -- from a row's start on the text of all further rows is left
-pub rows_rest-start : (ncols : ℕ) (rows : List (List ℤ)) (row : ℕ) → 0 < ncols → All (λ row. length row ≡ ncols) rows → rows_rest rows row 0 ≡ flat_map row_text (drop row rows)
-rows_rest-start ncols [] zero some width = refl
-rows_rest-start ncols [] (suc row) some width = refl
-rows_rest-start ncols ([] ∷ rows) zero some width = absurd (omega (arith, some, width 0 [] (omega arith)))
-rows_rest-start ncols ((cell ∷ cells) ∷ rows) zero some width = refl
-rows_rest-start ncols (first ∷ rows) (suc row) some width = rows_rest-start ncols rows row some (λ k d within. width (suc k) d (omega (arith, within)))
+pub rows_rest-start : {T : Type 0} (spell : T → List ℕ) (ncols : ℕ) (rows : List (List T)) (row : ℕ) → 0 < ncols → All (λ row. length row ≡ ncols) rows → rows_rest spell rows row 0 ≡ flat_map (row_text spell) (drop row rows)
+rows_rest-start spell ncols [] zero some width = refl
+rows_rest-start spell ncols [] (suc row) some width = refl
+rows_rest-start spell ncols ([] ∷ rows) zero some width = absurd (omega (arith, some, width 0 [] (omega arith)))
+rows_rest-start spell ncols ((cell ∷ cells) ∷ rows) zero some width = refl
+rows_rest-start spell ncols (first ∷ rows) (suc row) some width = rows_rest-start spell ncols rows row some (λ k d within. width (suc k) d (omega (arith, within)))
 
 -- a row's end is the next row's start
-pub rows_rest-next : (ncols : ℕ) (rows : List (List ℤ)) (row : ℕ) (cells : List ℤ) → 0 < ncols → All (λ row. length row ≡ ncols) rows → slice_get rows row ≡ Some cells → rows_rest rows row (length cells) ≡ rows_rest rows (suc row) 0
-rows_rest-next ncols rows row cells some width is =
-    rows_rest-row rows row (length cells) cells is ∙ ap (λ xs. row_rest xs ++ flat_map row_text (drop (suc row) rows)) (drop_all (length cells) cells (omega arith)) ∙ sym (rows_rest-start ncols rows (suc row) some width)
+pub rows_rest-next : {T : Type 0} (spell : T → List ℕ) (ncols : ℕ) (rows : List (List T)) (row : ℕ) (cells : List T) → 0 < ncols → All (λ row. length row ≡ ncols) rows → slice_get rows row ≡ Some cells → rows_rest spell rows row (length cells) ≡ rows_rest spell rows (suc row) 0
+rows_rest-next spell ncols rows row cells some width is =
+    rows_rest-row spell rows row (length cells) cells is ∙ ap (λ xs. row_rest spell xs ++ flat_map (row_text spell) (drop (suc row) rows)) (drop_all (length cells) cells (omega arith)) ∙ sym (rows_rest-start spell ncols rows (suc row) some width)
 
 -- past the last row nothing is left
-pub rows_rest-end : (rows : List (List ℤ)) (row col : ℕ) → length rows ≤ row → rows_rest rows row col ≡ []
-rows_rest-end [] row col past = refl
-rows_rest-end (first ∷ rows) zero col past = absurd (omega (arith, past))
-rows_rest-end (first ∷ rows) (suc row) col past = rows_rest-end rows row col (omega (arith, past))
+pub rows_rest-end : {T : Type 0} (spell : T → List ℕ) (rows : List (List T)) (row col : ℕ) → length rows ≤ row → rows_rest spell rows row col ≡ []
+rows_rest-end spell [] row col past = refl
+rows_rest-end spell (first ∷ rows) zero col past = absurd (omega (arith, past))
+rows_rest-end spell (first ∷ rows) (suc row) col past = rows_rest-end spell rows row col (omega (arith, past))
 
 -- where nothing is left the text was appended
 pub appends_all : (before now text : List ℕ) → Appends before now text [] → now ≡ before ++ text

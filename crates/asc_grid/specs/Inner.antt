@@ -1,3 +1,4 @@
-pub mod Header
+pub mod Cursor
 pub mod Next
 pub mod Rest
+pub mod Values

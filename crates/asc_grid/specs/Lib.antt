@@ -1,6 +1,11 @@
 pub mod Appended
 pub mod Canonical
-pub mod Plain
-pub mod PlainNumber
+pub mod Cells
+pub mod Grid
+pub mod Header
+pub mod Keyword
+pub mod Offence
+pub mod Text
 pub mod Tokens
+pub mod Value
 pub mod Inner

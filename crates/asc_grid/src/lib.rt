@@ -1,11 +1,16 @@
-//! Reading and writing of ESRI ASCII grids: so far of plain ones, whose header is five keywords in one
-//! order and whose numbers are whole.
+//! ESRI ASCII grids, read and written, with cells of any type.
+//!
+//! `read_grid` answers the grid of a text or its first offence with its line; `write_grid` appends the
+//! canonical text, and `GridText` hands it out piece by piece.
 #![tactic(auto)]
 
-mod number;
-mod plain;
+mod fault;
+mod grid;
+mod header;
+mod keyword;
 mod tokens;
 mod write;
 
-pub use plain::{PlainAsc, read_plain};
-pub use write::{PlainText, write_plain};
+pub use fault::{GridFault, GridKind};
+pub use grid::{Asc, read_grid};
+pub use write::{GridText, write_grid};
