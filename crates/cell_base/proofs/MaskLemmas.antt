@@ -64,11 +64,11 @@ mask_row cells nodata mask row masking = record {
 }
 
 pub mask_end : {T : Type 0} (cells : Raster T) (nodata : Option T) (mask : Raster Bool) → IsRaster cells → IsMasking cells nodata mask (cells.nrows, 0) → (p : Place) → IsMarked mask p ↔ IsValid cells nodata p
-mask_end cells nodata mask whole masking p = (
+mask_end cells nodata mask shape masking p = (
   λ marked.
       let inside = masking.inside p marked in
       (masking.done p inside (inl inside.0)).0 marked,
   λ valid.
-      let inside = inside_from_value cells p valid.0 whole valid.1 in
+      let inside = inside_from_value cells p valid.0 shape valid.1 in
       (masking.done p inside (inl inside.0)).1 valid,
 )

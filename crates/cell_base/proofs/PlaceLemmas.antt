@@ -11,12 +11,12 @@ no_value place v is = cc
 
 -- a place that has a value is inside
 pub inside_from_value : {T : Type 0} (grid : Raster T) (p : Place) (v : T) → IsRaster grid → value_at grid p ≡ Some v → IsInside grid p
-inside_from_value grid p v whole is =
+inside_from_value grid p v shape is =
     let at : slice_get (get_or grid.rows p.0 []) p.1 ≡ Some v = ap (λ row. slice_get row p.1) (sym (unwrap_or-slice_get grid.rows p.0 [])) ∙ is in
     elim (cases_lt p.0 (length grid.rows)) [
       | inl within ↦
           let in_row = slice_get_within (get_or grid.rows p.0 []) p.1 v at in
-          (omega (arith, whole.height), omega (arith, in_row, whole.width p.0 [] within))
+          (omega (arith, shape.height), omega (arith, in_row, shape.width p.0 [] within))
       | inr past ↦ absurd (no_value p.1 v (ap (λ row. slice_get row p.1) (sym (get_or_past grid.rows p.0 [] past)) ∙ at))
     ]
 

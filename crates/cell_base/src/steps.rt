@@ -1,4 +1,3 @@
-// The cells round a cell.
 ghost use Rattle.std.specs.Prelude.{◌≡◌, ◌<◌, ◌≤◌, IfSome, IfNone};
 ghost use Rattle.cell_base.specs.Raster.{Place, most_cells};
 ghost use Rattle.cell_base.specs.Steps.{IsNeighbour, step_count};

@@ -1,3 +1,3 @@
-pub mod PlaceTests
+pub mod EdgeDeciders
 pub mod ParityLemmas
 pub mod BoundaryLemmas

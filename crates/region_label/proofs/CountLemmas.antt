@@ -10,8 +10,8 @@ use Rattle.std.proofs.lemmas.Grind.{common_steps}
 use Rattle.cell_base.specs.Raster.{Place, IsRaster, value_at}
 use Rattle.cell_base.proofs.PlaceLemmas.{inside_from_value}
 use Rattle.region_label.specs.Count.{HasCount}
-use Rattle.region_label.specs.Fill.{Numbers}
-use Rattle.region_label.specs.Sizes.{IsCounted, AreCounted}
+use Rattle.region_label.specs.Inner.Fill.{Numbers}
+use Rattle.region_label.specs.Inner.Sizes.{IsCounted, AreCounted}
 use Rattle.cell_base.proofs.OrderLemmas.{none_before, before_next, before_more, before_not_itself, at_row_end, in_next_row}
 
 -- sets with the same members have the same count
@@ -118,8 +118,8 @@ counted_one numbers row col k n sizes counted is at = record {
 
 -- at the end of a row
 pub counted_row : (numbers : Numbers) (row : ℕ) (sizes : List ℕ) → IsRaster numbers → AreCounted numbers (row, numbers.ncols) sizes → AreCounted numbers (row + 1, 0) sizes
-counted_row numbers row sizes whole counted = record {
-  counts = λ k n at. count_same (IsCounted numbers k (row, numbers.ncols)) (IsCounted numbers k (row + 1, 0)) n (λ p. (λ was. (was.0, in_next_row p row numbers.ncols was.1), λ now. (now.0, at_row_end p row numbers.ncols (inside_from_value numbers p (Some k) whole now.0).1 now.1))) (counted.counts k n at);
+counted_row numbers row sizes shape counted = record {
+  counts = λ k n at. count_same (IsCounted numbers k (row, numbers.ncols)) (IsCounted numbers k (row + 1, 0)) n (λ p. (λ was. (was.0, in_next_row p row numbers.ncols was.1), λ now. (now.0, at_row_end p row numbers.ncols (inside_from_value numbers p (Some k) shape now.0).1 now.1))) (counted.counts k n at);
   small = λ k n at. omega (arith, counted.small k n at);
 }
 

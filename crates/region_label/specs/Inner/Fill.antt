@@ -1,17 +1,17 @@
--- How far a labelling has come.
-use Rattle.std.specs.Prelude.{◌≡◌, ℕ, zero, suc, ◌+◌, ◌*◌, ◌<◌, ◌≤◌, ◌⊎◌, Bool, true, false, List, Option, Some, None, Contains, length, slice_get, if◌then◌else◌}
-use Rattle.cell_base.specs.Raster.{Place, Raster, IsRaster, value_at}
-use Rattle.cell_base.specs.Valid.{IsMarked}
-use Rattle.cell_base.specs.Order.{IsBefore}
-use Rattle.region_label.specs.Component.{InComponent, IsFirst}
+-- How far the fill of one component has come.
+use Rattle.std.specs.Prelude.{◌≡◌, ◌≢◌, ℕ, zero, suc, ◌+◌, ◌*◌, ◌≤◌, ◌⊎◌, Bool, true, false, List, [], Option, Some, None, Contains, length, if◌then◌else◌}
+use Rattle.cell_base.specs.Raster.{Place, Raster, IsInside, IsRaster, value_at}
+use Rattle.cell_base.specs.Steps.{IsStep}
+use Rattle.region_label.specs.Component.{HasValue}
+use Rattle.region_label.specs.declared.fill.Filling.{Filling}
 
 abbrev pub Numbers : Type 0
 Numbers = Raster (Option ℕ)
 
 -- cells, the mask and the numbers are of one size
 pub record AreAligned {T : Type 0} (cells : Raster T) (valid : Raster Bool) (numbers : Numbers) : Type 0 where
-  pub cells_whole : IsRaster cells
-  pub valid_whole : IsRaster valid
+  pub cells_shape : IsRaster cells
+  pub valid_shape : IsRaster valid
   pub valid_cols : valid.ncols ≡ cells.ncols
   pub valid_rows : valid.nrows ≡ cells.nrows
   pub cols : numbers.ncols ≡ cells.ncols
@@ -39,8 +39,24 @@ free_in_rows numbers (suc n) = free_in_row numbers n numbers.ncols + free_in_row
 unfoldable pub free_count : Numbers → ℕ
 free_count numbers = free_in_rows numbers numbers.nrows
 
+-- of the cells that a relation leads to, those that are inside, valid and of this value have a number
+abbrev pub AreNumbered : {T : Type 0} → (Place → Type 0) → Raster T → Raster Bool → T → Numbers → Type 0
+AreNumbered reached cells valid value numbers = (p : Place) → reached p → IsInside cells p → HasValue cells valid (Some value) p → IsNumbered numbers p
+
+-- no cell of the set has a number
+abbrev pub AreFree : (Place → Type 0) → Numbers → Type 0
+AreFree set numbers = (p : Place) → set p → (k : ℕ) → value_at numbers p ≢ Some (Some k)
+
+-- the cell itself, if it is valid and of this value
+abbrev pub IsHere : {T : Type 0} → Raster T → Raster Bool → T → Place → Place → Type 0
+IsHere cells valid value at p = (p ≡ at) × HasValue cells valid (Some value) p
+
+-- a cell one step away, if it is inside, valid and of this value
+abbrev pub IsNearby : {T : Type 0} → Bool → Raster T → Raster Bool → T → Place → Place → Type 0
+IsNearby connectivity cells valid value at p = IsStep connectivity at p × HasValue cells valid (Some value) p × IsInside cells p
+
 -- cells of this kind got this number and were put on the stack
-pub record Spreads (may : Place → Type 0) (k : ℕ) (old new : Numbers) (stack stacked : List Place) : Type 0 where
+pub record SpreadsNumbers (may : Place → Type 0) (k : ℕ) (old new : Numbers) (stack stacked : List Place) : Type 0 where
   pub cols : new.ncols ≡ old.ncols
   pub rows : new.nrows ≡ old.nrows
   pub kept : (p : Place) (j : ℕ) → value_at old p ≡ Some (Some j) → value_at new p ≡ Some (Some j)
@@ -50,8 +66,11 @@ pub record Spreads (may : Place → Type 0) (k : ℕ) (old new : Numbers) (stack
   pub free : free_count new ≤ free_count old
   pub less : 2 * free_count new + length stacked ≤ 2 * free_count old + length stack
 
+abbrev pub Spreads : (Place → Type 0) → ℕ → Filling → Filling → Type 0
+Spreads may k old new = SpreadsNumbers may k old.numbers new.numbers old.stack.items new.stack.items
+
 -- exactly the members of a set got this number, and there was at least one
-pub record IsFilled (set : Place → Type 0) (k : ℕ) (old new : Numbers) : Type 0 where
+pub record FillsNumbers (set : Place → Type 0) (k : ℕ) (old new : Numbers) : Type 0 where
   pub cols : new.ncols ≡ old.ncols
   pub rows : new.nrows ≡ old.nrows
   pub kept : (p : Place) (j : ℕ) → value_at old p ≡ Some (Some j) → value_at new p ≡ Some (Some j)
@@ -59,13 +78,6 @@ pub record IsFilled (set : Place → Type 0) (k : ℕ) (old new : Numbers) : Typ
   pub all : (p : Place) → set p → value_at new p ≡ Some (Some k)
   pub less : free_count new + 1 ≤ free_count old
 
--- the cells before this place have their numbers, by this list of first cells
-pub record IsScanned {T : Type 0} (eight : Bool) (cells : Raster T) (valid : Raster Bool) (numbers : Numbers) (firsts : List Place) (place : Place) : Type 0 where
-  pub aligned : AreAligned cells valid numbers
-  pub order : (i j : ℕ) (a b : Place) → i < j → slice_get firsts i ≡ Some a → slice_get firsts j ≡ Some b → IsBefore a b
-  pub first : (k : ℕ) (a : Place) → slice_get firsts k ≡ Some a → IsFirst eight cells valid a × IsBefore a place
-  pub every : (a : Place) → IsFirst eight cells valid a → IsBefore a place → (k : ℕ) × (slice_get firsts k ≡ Some a)
-  pub numbered : (p : Place) (k : ℕ) → value_at numbers p ≡ Some (Some k) → (a : Place) × (slice_get firsts k ≡ Some a) × InComponent eight cells valid a p
-  pub joined : (k : ℕ) (a p : Place) → slice_get firsts k ≡ Some a → InComponent eight cells valid a p → value_at numbers p ≡ Some (Some k)
-  pub scanned : (p : Place) → IsBefore p place → IsMarked valid p → IsNumbered numbers p
-  pub room : length firsts + free_count numbers ≤ cells.ncols * cells.nrows
+pub record IsFilled (set : Place → Type 0) (k : ℕ) (old new : Filling) : Type 0 where
+  pub numbers : FillsNumbers set k old.numbers new.numbers
+  pub empty : new.stack.items ≡ []
