@@ -9,7 +9,7 @@ use Rattle.region_label.specs.Count.{IsListOf}
 use Rattle.region_label.specs.Labelling.{RegionTable, IsInRegion}
 use Rattle.edge_trace.specs.Edge.{Edge, HasOnLeft, IsBoundaryEdge}
 use Rattle.edge_trace.specs.Crossing.{is_crossed, crossing_count}
-use Rattle.edge_trace.specs.EdgeTable.{IsEnclosedByBoundary}
+use Rattle.edge_trace.specs.EdgeTable.{EdgeTable, EnclosesRegions, HoldsBoundaries, IsEnclosedByBoundary}
 use Rattle.edge_trace.proofs.EdgeDeciders.{same_edge, same_edge_sound, same_edge_complete}
 use Rattle.edge_trace.proofs.ParityLemmas.{change_beside, is_odd, is_upright_at, odd_xor, odd_is_count, xor_false}
 use Rattle.std.proofs.Math.Bool.{xor}
@@ -198,3 +198,16 @@ enclosed_by_boundary set test tests edges all cell =
 -- each component is enclosed by its boundary
 pub region_enclosed : (regions : RegionTable) (k : ℕ) → IsEnclosedByBoundary (IsInRegion regions k)
 region_enclosed regions k = enclosed_by_boundary (IsInRegion regions k) (is_in_region regions k) (λ p. (is_in_region_sound regions k p, is_in_region_complete regions k p))
+
+-- so are the cells of each component by its edges in a table that holds each boundary edge
+pub table_encloses : (regions : RegionTable) (table : EdgeTable) → HoldsBoundaries regions table → EnclosesRegions regions table
+table_encloses regions table holds k edges list =
+    region_enclosed regions k edges (record {
+      all = λ e. (
+        λ member.
+            let own = (list.all e).0 member in
+            holds.boundary k own.0 e own.1 own.2,
+        λ boundary. (list.all e).1 (holds.every k e boundary),
+      );
+      once = list.once;
+    })

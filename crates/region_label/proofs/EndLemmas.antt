@@ -2,12 +2,12 @@ use Rattle.std.proofs.Common.{◌≡◌, ℕ, ◌<◌, ◌↔◌, inl, inr, Bool
 use Rattle.std.specs.Prelude.{slice_get}
 use Rattle.std.proofs.lemmas.Bool.{cases_lt, cases_eq}
 use Rattle.std.proofs.lemmas.Option.{slice_get_within, slice_get-get_or, same_Some}
-use Rattle.cell_base.specs.Raster.{Place, Raster, value_at}
+use Rattle.cell_base.specs.Raster.{Place, Raster, IsRaster, value_at}
 use Rattle.cell_base.specs.Valid.{IsMarked}
 use Rattle.cell_base.specs.Order.{IsBefore}
 use Rattle.region_label.specs.Component.{InComponent, HasNumber}
 use Rattle.region_label.specs.Labelling.{IsLabelling}
-use Rattle.region_label.specs.Inner.Fill.{Numbers, AreAligned}
+use Rattle.region_label.specs.Inner.Fill.{Numbers, AreOfOneSize}
 use Rattle.region_label.specs.Inner.Scan.{IsScanned}
 use Rattle.region_label.specs.Inner.Sizes.{AreCounted}
 use Rattle.region_label.proofs.ComponentLemmas.{component_end}
@@ -31,7 +31,7 @@ index_before firsts order i k a b at_a at_b before = elim (cases_lt i k) [
 ]
 
 -- a valid cell is before the end
-before_end : {T : Type 0} (cells : Raster T) (valid : Raster Bool) (numbers : Numbers) (p : Place) → AreAligned cells valid numbers → IsMarked valid p → IsBefore p (cells.nrows, 0)
+before_end : {T : Type 0} (cells : Raster T) (valid : Raster Bool) (numbers : Numbers) (p : Place) → AreOfOneSize cells valid numbers → IsMarked valid p → IsBefore p (cells.nrows, 0)
 before_end cells valid numbers p aligned marked = inl (marked_inside cells valid numbers p aligned marked).0
 
 -- the number of a first cell is its place in the list of them
@@ -72,11 +72,11 @@ region_at {T} connectivity cells valid numbers firsts scan k a p at = (
   λ joined. scan.joined k a p at joined,
 )
 
--- after the last cell the table is whole
-pub labelling : {T : Type 0} (connectivity : Bool) (cells : Raster T) (valid : Raster Bool) (numbers : Numbers) (firsts : List Place) (sizes : List ℕ) → IsScanned connectivity cells valid numbers firsts (cells.nrows, 0) → length sizes ≡ length firsts → AreCounted numbers (cells.nrows, 0) sizes → IsLabelling connectivity cells valid (record { numbers = numbers; firsts = firsts; sizes = sizes })
-labelling connectivity cells valid numbers firsts sizes scan sized counted = record {
-  ncols = scan.aligned.cols;
-  nrows = scan.aligned.rows;
+-- after the last cell the table is that of the components
+pub labelling : {T : Type 0} (connectivity : Bool) (cells : Raster T) (valid : Raster Bool) (numbers : Numbers) (firsts : List Place) (sizes : List ℕ) → IsScanned connectivity cells valid numbers firsts (cells.nrows, 0) → IsRaster numbers → length sizes ≡ length firsts → AreCounted numbers (cells.nrows, 0) sizes → IsLabelling connectivity cells valid (record { numbers = numbers; firsts = firsts; sizes = sizes })
+labelling connectivity cells valid numbers firsts sizes scan shape sized counted = record {
+  mask = scan.aligned.mask;
+  numbers = record { first = scan.aligned.mask.first; second = shape; ncols = scan.aligned.cols; nrows = scan.aligned.rows };
   first = λ k a at. (scan.first k a at).0;
   number = λ k a at. number_at connectivity cells valid numbers firsts scan k a at;
   every = λ a is.

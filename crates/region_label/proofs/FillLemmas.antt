@@ -8,7 +8,7 @@ use Rattle.std.proofs.lemmas.Bool.{cases_lt}
 use Rattle.region_label.specs.Component.{HasValue}
 use Rattle.cell_base.specs.Walk.{IsWalk, StepsInto, IsJoined}
 use Rattle.cell_base.proofs.WalkLemmas.{joined_itself, joined_more}
-use Rattle.region_label.specs.Inner.Fill.{Numbers, AreAligned, AreFree, IsNumbered, SpreadsNumbers, FillsNumbers, free_count}
+use Rattle.region_label.specs.Inner.Fill.{Numbers, AreOfOneSize, AreFree, IsNumbered, SpreadsNumbers, FillsNumbers, free_count}
 use Rattle.cell_base.proofs.OrderLemmas.{same_or_other}
 use Rattle.region_label.proofs.FreeLemmas.{count_set}
 
@@ -176,12 +176,9 @@ filled connectivity set inside start k base numbers free within in_set filling =
 }
 
 -- numbers of one size with others
-pub aligned_after : {T : Type 0} (cells : Raster T) (valid : Raster Bool) (old new : Numbers) → AreAligned cells valid old → new.ncols ≡ old.ncols → new.nrows ≡ old.nrows → AreAligned cells valid new
+pub aligned_after : {T : Type 0} (cells : Raster T) (valid : Raster Bool) (old new : Numbers) → AreOfOneSize cells valid old → new.ncols ≡ old.ncols → new.nrows ≡ old.nrows → AreOfOneSize cells valid new
 aligned_after cells valid old new aligned cols rows = record {
-  cells_shape = aligned.cells_shape;
-  valid_shape = aligned.valid_shape;
-  valid_cols = aligned.valid_cols;
-  valid_rows = aligned.valid_rows;
+  mask = aligned.mask;
   cols = cols ∙ aligned.cols;
   rows = rows ∙ aligned.rows;
 }

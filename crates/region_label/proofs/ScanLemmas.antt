@@ -8,7 +8,7 @@ use Rattle.cell_base.proofs.PlaceLemmas.{inside_from_value, rows_hold}
 use Rattle.std.proofs.lemmas.List.Elements.{All-replicate}
 use Rattle.cell_base.specs.Order.{IsBefore}
 use Rattle.region_label.specs.Component.{InComponent, IsFirst}
-use Rattle.region_label.specs.Inner.Fill.{Numbers, AreAligned, IsNumbered, FillsNumbers}
+use Rattle.region_label.specs.Inner.Fill.{Numbers, AreOfOneSize, IsNumbered, FillsNumbers}
 use Rattle.region_label.specs.Inner.Scan.{IsScanned}
 use Rattle.region_label.proofs.FreeLemmas.{count_most}
 use Rattle.region_label.proofs.ComponentLemmas.{component_end, component_itself, component_sym, component_trans}
@@ -19,10 +19,10 @@ use Rattle.cell_base.proofs.OrderLemmas.{none_before, before_next, before_more, 
 abbrev pub HasNone : Numbers → Place → Type 0
 HasNone numbers p = (k : ℕ) → value_at numbers p ≢ Some (Some k)
 
-pub marked_inside : {T : Type 0} (cells : Raster T) (valid : Raster Bool) (numbers : Numbers) (p : Place) → AreAligned cells valid numbers → IsMarked valid p → IsInside cells p
+pub marked_inside : {T : Type 0} (cells : Raster T) (valid : Raster Bool) (numbers : Numbers) (p : Place) → AreOfOneSize cells valid numbers → IsMarked valid p → IsInside cells p
 marked_inside cells valid numbers p aligned marked =
-    let inside = inside_from_value valid p _ aligned.valid_shape marked in
-    (omega (arith, inside.0, aligned.valid_rows), omega (arith, inside.1, aligned.valid_cols))
+    let inside = inside_from_value valid p _ aligned.mask.second marked in
+    (omega (arith, inside.0, aligned.mask.nrows), omega (arith, inside.1, aligned.mask.ncols))
 
 -- of the next place it is known whether it is one of these
 every_next : {T : Type 0} (connectivity : Bool) (cells : Raster T) (valid : Raster Bool) (numbers : Numbers) (firsts : List Place) (row col : ℕ) → IsScanned connectivity cells valid numbers firsts (row, col) → ¬ IsFirst connectivity cells valid (row, col) → (IsMarked valid (row, col) → IsNumbered numbers (row, col)) → IsScanned connectivity cells valid numbers firsts (row, col + 1)
@@ -84,10 +84,7 @@ scan_filled {T} connectivity cells valid numbers after firsts row col scan marke
     let old_at : (k : ℕ) (a : Place) → slice_get firsts k ≡ Some a → slice_get (firsts ++ place ∷ []) k ≡ Some a = λ k a at. slice_get-push_old firsts place k (slice_get_within firsts k a at) ∙ at in
     record {
       aligned = record {
-        cells_shape = scan.aligned.cells_shape;
-        valid_shape = scan.aligned.valid_shape;
-        valid_cols = scan.aligned.valid_cols;
-        valid_rows = scan.aligned.valid_rows;
+        mask = scan.aligned.mask;
         cols = fill.cols ∙ scan.aligned.cols;
         rows = fill.rows ∙ scan.aligned.rows;
       };
@@ -149,7 +146,7 @@ none_at : (k : ℕ) (a : Place) → slice_get {X = Place} [] k ≡ Some a → �
 none_at k a at = cc
 
 -- before the first cell
-pub scan_start : {T : Type 0} (connectivity : Bool) (cells : Raster T) (valid : Raster Bool) (numbers : Numbers) → AreAligned cells valid numbers → ((p : Place) → HasNone numbers p) → IsScanned connectivity cells valid numbers [] (0, 0)
+pub scan_start : {T : Type 0} (connectivity : Bool) (cells : Raster T) (valid : Raster Bool) (numbers : Numbers) → AreOfOneSize cells valid numbers → ((p : Place) → HasNone numbers p) → IsScanned connectivity cells valid numbers [] (0, 0)
 scan_start connectivity cells valid numbers aligned none = record {
   aligned = aligned;
   order = λ i j a b less at_a at_b. absurd (none_at i a at_a);
@@ -175,11 +172,8 @@ has_none numbers p (Some j) at is k has = false≢true (sym is)
 -- a new grid of numbers has none
 pub scan_first : {T : Type 0} (connectivity : Bool) (cells : Raster T) (valid : Raster Bool) → IsRaster cells → IsRaster valid → valid.ncols ≡ cells.ncols → valid.nrows ≡ cells.nrows → IsScanned connectivity cells valid (raster_of valid.ncols valid.nrows (replicate (valid.ncols * valid.nrows) None)) [] (0, 0)
 scan_first connectivity cells valid cells_shape valid_shape cols rows =
-    let aligned : AreAligned cells valid (raster_of valid.ncols valid.nrows (replicate (valid.ncols * valid.nrows) None)) = record {
-      cells_shape = cells_shape;
-      valid_shape = valid_shape;
-      valid_cols = cols;
-      valid_rows = rows;
+    let aligned : AreOfOneSize cells valid (raster_of valid.ncols valid.nrows (replicate (valid.ncols * valid.nrows) None)) = record {
+      mask = record { first = cells_shape; second = valid_shape; ncols = cols; nrows = rows };
       cols = cols;
       rows = rows;
     } in

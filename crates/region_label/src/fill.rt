@@ -4,7 +4,7 @@ ghost use Rattle.cell_base.specs.Raster.{IsInside};
 ghost use Rattle.cell_base.specs.Steps.{IsNeighbour, IsStep, step_count};
 ghost use Rattle.cell_base.specs.Valid.{IsMarked};
 ghost use Rattle.region_label.specs.Component.{HasValue, InComponent};
-ghost use Rattle.region_label.specs.Inner.Fill.{AreAligned, AreFree, AreNumbered, IsFilled, IsHere};
+ghost use Rattle.region_label.specs.Inner.Fill.{AreOfOneSize, AreFree, AreNumbered, IsFilled, IsHere};
 ghost use Rattle.region_label.specs.Inner.Fill.{IsNearby, IsNumbered, Spreads};
 
 use cell_base::{Cell, Grid, Mask, Steps};
@@ -26,7 +26,7 @@ fn mark<T: Cell>(
     number: u32,
     at: (u32, u32),
 ) -> Result<(), AllocError>
-    requires aligned { AreAligned cells.now valid.now filling.old.numbers }
+    requires aligned { AreOfOneSize cells.now valid.now filling.old.numbers }
     requires inside { IsInside cells.now at }
     ensures spreads { OnOk result (Spreads (IsHere cells.now valid.now value at) number filling.old filling.new) }
     ensures marked { OnOk result (HasValue cells.now valid.now (Some value) at → IsNumbered filling.new.numbers at) }
@@ -55,7 +55,7 @@ fn mark_next<T: Cell, const EIGHT: bool>(
     at: (u32, u32),
     k: u32,
 ) -> Result<(), AllocError>
-    requires aligned { AreAligned cells.now valid.now filling.old.numbers }
+    requires aligned { AreOfOneSize cells.now valid.now filling.old.numbers }
     requires inside { IsInside cells.now at }
     requires k { k < step_count EIGHT }
     ensures spreads { OnOk result (Spreads (IsNearby EIGHT cells.now valid.now value at) number filling.old filling.new) }
@@ -77,7 +77,7 @@ fn spread<T: Cell, const EIGHT: bool>(
     number: u32,
     at: (u32, u32),
 ) -> Result<(), AllocError>
-    requires aligned { AreAligned cells.now valid.now filling.old.numbers }
+    requires aligned { AreOfOneSize cells.now valid.now filling.old.numbers }
     requires inside { IsInside cells.now at }
     ensures spreads { OnOk result (Spreads (IsNearby EIGHT cells.now valid.now value at) number filling.old filling.new) }
     ensures marked { OnOk result (AreNumbered (IsStep EIGHT at) cells.now valid.now value filling.new.numbers) }
@@ -96,7 +96,7 @@ pub(crate) fn fill<T: Cell, const EIGHT: bool>(
     start: (u32, u32),
     number: u32,
 ) -> Result<(), AllocError>
-    requires aligned { AreAligned cells.now valid.now filling.old.numbers }
+    requires aligned { AreOfOneSize cells.now valid.now filling.old.numbers }
     requires inside { IsInside cells.now start }
     requires valid { IsMarked valid.now start }
     requires free { AreFree (InComponent EIGHT cells.now valid.now start) filling.old.numbers }

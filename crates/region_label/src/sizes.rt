@@ -1,5 +1,5 @@
 // Counts the cells of each component.
-ghost use Rattle.std.specs.Prelude.{◌≡◌, ◌+◌, ◌<◌, IfOk, length};
+ghost use Rattle.std.specs.Prelude.{◌≡◌, ◌+◌, ◌<◌, IfOk, OnOk, length};
 ghost use Rattle.cell_base.specs.Raster.{IsRaster};
 ghost use Rattle.region_label.specs.Inner.Sizes.{AreCounted, HasNumbersBelow};
 
@@ -29,6 +29,7 @@ pub(crate) fn sizes_of(
     count: usize,
 ) -> Result<Vec<u32>, AllocError>
     requires known { HasNumbersBelow numbers.now count }
+    ensures shape { OnOk result (IsRaster numbers.now) }
     ensures len { IfOk result (λ sizes. length sizes.items ≡ count) }
     ensures counted { IfOk result (λ sizes. AreCounted numbers.now (numbers.now.nrows, 0) sizes.items) }
 {

@@ -3,3 +3,4 @@ pub mod NeighbourDeciders
 pub mod SieveDeciders
 pub mod TargetLemmas
 pub mod SieveExamples
+pub mod KeepsLemmas

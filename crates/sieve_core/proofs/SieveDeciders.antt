@@ -89,8 +89,7 @@ takes_values_by connectivity regions st targets old new shape old_shape new_shap
     let target : (p : Place) (k : ℕ) → IsInRegion regions k p → from_target old regions (value_at old p) (value_at new p) (slice_get targets k) ≡ true =
     λ p k in_k. ap (from_number old regions targets (value_at old p) (value_at new p)) (sym in_k) ∙ at p (inside_from_value regions.numbers p (Some k) shape in_k) in
     record {
-      ncols = new_cols;
-      nrows = new_rows;
+      aligned = record { first = old_shape; second = new_shape; ncols = new_cols; nrows = new_rows };
       taken = λ p k m in_k takes. target_taken connectivity regions st targets old (value_at old p) (value_at new p) k m (slice_get targets k) right takes refl (target p k in_k);
       stays = λ p k in_k none. target_stays connectivity regions st targets old (value_at old p) (value_at new p) k (slice_get targets k) right none refl (target p k in_k);
       not_valid = λ p none. elim (inside_or_not regions.numbers p) [

@@ -1,6 +1,6 @@
 -- How far the fill of one component has come.
 use Rattle.std.specs.Prelude.{◌≡◌, ◌≢◌, ℕ, zero, suc, ◌+◌, ◌*◌, ◌≤◌, ◌⊎◌, Bool, true, false, List, [], Option, Some, None, Contains, length, if◌then◌else◌}
-use Rattle.cell_base.specs.Raster.{Place, Raster, IsInside, IsRaster, value_at}
+use Rattle.cell_base.specs.Raster.{Place, Raster, AreAligned, IsInside, value_at}
 use Rattle.cell_base.specs.Steps.{IsStep}
 use Rattle.region_label.specs.Component.{HasValue}
 use Rattle.region_label.specs.declared.fill.Filling.{Filling}
@@ -9,11 +9,8 @@ abbrev pub Numbers : Type 0
 Numbers = Raster (Option ℕ)
 
 -- cells, the mask and the numbers are of one size
-pub record AreAligned {T : Type 0} (cells : Raster T) (valid : Raster Bool) (numbers : Numbers) : Type 0 where
-  pub cells_shape : IsRaster cells
-  pub valid_shape : IsRaster valid
-  pub valid_cols : valid.ncols ≡ cells.ncols
-  pub valid_rows : valid.nrows ≡ cells.nrows
+pub record AreOfOneSize {T : Type 0} (cells : Raster T) (valid : Raster Bool) (numbers : Numbers) : Type 0 where
+  pub mask : AreAligned cells valid
   pub cols : numbers.ncols ≡ cells.ncols
   pub rows : numbers.nrows ≡ cells.nrows
 

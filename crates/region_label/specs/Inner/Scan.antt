@@ -4,12 +4,12 @@ use Rattle.cell_base.specs.Raster.{Place, Raster, value_at}
 use Rattle.cell_base.specs.Valid.{IsMarked}
 use Rattle.cell_base.specs.Order.{IsBefore}
 use Rattle.region_label.specs.Component.{InComponent, IsFirst}
-use Rattle.region_label.specs.Inner.Fill.{Numbers, AreAligned, IsNumbered, free_count}
+use Rattle.region_label.specs.Inner.Fill.{Numbers, AreOfOneSize, IsNumbered, free_count}
 use Rattle.region_label.specs.declared.scan.Scan.{Scan}
 
 -- the cells before this place have their numbers, by this list of first cells
 pub record IsScanned {T : Type 0} (connectivity : Bool) (cells : Raster T) (valid : Raster Bool) (numbers : Numbers) (firsts : List Place) (place : Place) : Type 0 where
-  pub aligned : AreAligned cells valid numbers
+  pub aligned : AreOfOneSize cells valid numbers
   pub order : (i j : ℕ) (a b : Place) → i < j → slice_get firsts i ≡ Some a → slice_get firsts j ≡ Some b → IsBefore a b
   pub first : (k : ℕ) (a : Place) → slice_get firsts k ≡ Some a → IsFirst connectivity cells valid a × IsBefore a place
   pub every : (a : Place) → IsFirst connectivity cells valid a → IsBefore a place → (k : ℕ) × (slice_get firsts k ≡ Some a)

@@ -25,4 +25,4 @@ returns g c =
     let count : c.len.result ≡ length c.loop-row.scan.firsts.items = cc (c.loop-row.scan.firsts.ok.0, c.len.ensures) in
     let sized : length c.in_ok-sizes.sizes.items ≡ length c.loop-row.scan.firsts.items = omega (arith, count, c.in_ok-sizes.ensures.len) in
     let sizes : AreCounted c.loop-row.scan.filling.numbers (c.args.cells.now.nrows, 0) c.in_ok-sizes.sizes.items = subst (λ (n : ℕ). AreCounted c.loop-row.scan.filling.numbers (n, 0) c.in_ok-sizes.sizes.items) c.loop-row.invariant.scanned.aligned.rows c.in_ok-sizes.ensures.counted in
-    rw c.of.ensures (labelling _ c.args.cells.now c.args.valid.now c.loop-row.scan.filling.numbers c.loop-row.scan.firsts.items c.in_ok-sizes.sizes.items (rw end at c.loop-row.invariant.scanned) sized sizes)
+    rw c.of.ensures (labelling _ c.args.cells.now c.args.valid.now c.loop-row.scan.filling.numbers c.loop-row.scan.firsts.items c.in_ok-sizes.sizes.items (rw end at c.loop-row.invariant.scanned) c.in_ok-sizes.ensures.shape sized sizes)
