@@ -7,5 +7,6 @@ ghost use Rattle.edge_trace.specs.EdgeTable.{EdgeTable, EnclosesRegions, HoldsBo
 /// exactly at the component's cells. So a table that holds each boundary edge once encloses each component.
 pub fn boundary_encloses()
     ensures boundary { (regions : RegionTable) (k : ℕ) → IsEnclosedByBoundary (IsInRegion regions k) }
-    ensures table { (regions : RegionTable) (table : EdgeTable) → HoldsBoundaries regions table → EnclosesRegions regions table }
+    ensures table { (regions : RegionTable) (table : EdgeTable)
+        → HoldsBoundaries regions table → EnclosesRegions regions table }
 {}

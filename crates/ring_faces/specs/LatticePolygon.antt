@@ -1,4 +1,5 @@
--- Valid polygons whose rings run along the sides of cells: the rules for a Polygon in Simple Features (OGC 06-103r4, 6.1.11) in discrete form.
+-- Valid polygons whose rings run along the sides of cells: the rules for a Polygon in Simple Features (OGC 06-103r4,
+-- 6.1.11) in discrete form.
 use Rattle.std.specs.Prelude.{ℕ, ◌+◌, List, ◌∷◌, All, AllPairs}
 use Rattle.cell_base.specs.Raster.{Place}
 use Rattle.cell_base.specs.Steps.{four}
@@ -33,15 +34,18 @@ SharesNoCell g h = (cell : Place) → IsInsideRing g cell → ¬ IsInsideRing h 
 
 -- at the corner (row + 1, col + 1) the ring has the edge from above and the edge to below
 abbrev pub PassesUpright : Ring → ℕ → ℕ → Type 0
-PassesUpright ring row col = RunsAlong ring ((row, col + 1), (row + 1, col + 1)) × RunsAlong ring ((row + 1, col + 1), (row + 2, col + 1))
+PassesUpright ring row col = RunsAlong ring ((row, col + 1), (row + 1, col + 1))
+    × RunsAlong ring ((row + 1, col + 1), (row + 2, col + 1))
 
 -- at the corner (row + 1, col + 1) the ring has the edge from the left and the edge to the right
 abbrev pub PassesLevel : Ring → ℕ → ℕ → Type 0
-PassesLevel ring row col = RunsAlong ring ((row + 1, col), (row + 1, col + 1)) × RunsAlong ring ((row + 1, col + 1), (row + 1, col + 2))
+PassesLevel ring row col = RunsAlong ring ((row + 1, col), (row + 1, col + 1))
+    × RunsAlong ring ((row + 1, col + 1), (row + 1, col + 2))
 
 -- at no corner does one of the rings pass upright and the other level
 abbrev pub DoNotCross : Ring → Ring → Type 0
-DoNotCross g h = (row col : ℕ) → ¬ (PassesUpright g row col × PassesLevel h row col) × ¬ (PassesLevel g row col × PassesUpright h row col)
+DoNotCross g h = (row col : ℕ) → ¬ (PassesUpright g row col × PassesLevel h row col)
+    × ¬ (PassesLevel g row col × PassesUpright h row col)
 
 -- a valid lattice polygon
 pub record IsValidPolygon (polygon : Polygon) : Type 0 where

@@ -1,4 +1,5 @@
--- The sieved grid: small components take the value of a larger neighbour (manual of gdal_sieve). Ties and chains are this project's own.
+-- The sieved grid: small components take the value of a larger neighbour (manual of gdal_sieve). Ties and chains are
+-- this project's own.
 use Rattle.std.specs.Prelude.{◌≡◌, ◌≢◌, ℕ, ◌<◌, ◌≤◌, Bool, List, Option, Some, length, slice_get, slice_index}
 use Rattle.cell_base.specs.Raster.{Place, Raster, AreAligned, value_at}
 use Rattle.cell_base.specs.Steps.{IsStep}
@@ -28,14 +29,16 @@ HasAtMostOne {A} P = (x y : A) → P x → P y → x ≡ y
 abbrev pub IsChained : Bool → RegionTable → ℕ → ℕ → ℕ → Type 0
 IsChained connectivity regions st k m = (size_of regions k < st) × IsLargest connectivity regions k m
 
--- the component takes the value of another: the first of its chain that has at least st cells, among as many members as there are components
+-- the component takes the value of another: the first of its chain that has at least st cells, among as many members
+-- as there are components
 abbrev pub TakesFrom : Bool → RegionTable → ℕ → ℕ → ℕ → Type 0
 TakesFrom connectivity regions st k m = (chain : List ℕ) × IsWalk (IsChained connectivity regions st) k chain m
     × (length chain < length regions.firsts) × (st ≤ size_of regions m)
 
 -- the value of a component
 abbrev pub HasRegionValue : {T : Type 0} → Raster T → RegionTable → ℕ → Option T → Type 0
-HasRegionValue cells regions k value = (first : Place) × (slice_get regions.firsts k ≡ Some first) × (value_at cells first ≡ value)
+HasRegionValue cells regions k value = (first : Place) × (slice_get regions.firsts k ≡ Some first)
+    × (value_at cells first ≡ value)
 
 -- the grid with the values that the components take
 pub record TakesValues {T : Type 0} (connectivity : Bool) (regions : RegionTable) (st : ℕ) (old new : Raster T) : Type 0 where

@@ -6,8 +6,10 @@ ghost use Rattle.sieve_core.specs.Sieve.{HasAtMostOne, IsLargest, IsSieved, Take
 
 /// A component has at most one largest neighbour, and takes the value of at most one component.
 pub fn chain_has_one_end()
-    ensures largest { (connectivity : Bool) (regions : RegionTable) (k : ℕ) → HasAtMostOne (IsLargest connectivity regions k) }
-    ensures taken { (connectivity : Bool) (regions : RegionTable) (st k : ℕ) → HasAtMostOne (TakesFrom connectivity regions st k) }
+    ensures largest { (connectivity : Bool) (regions : RegionTable) (k : ℕ)
+        → HasAtMostOne (IsLargest connectivity regions k) }
+    ensures taken { (connectivity : Bool) (regions : RegionTable) (st k : ℕ)
+        → HasAtMostOne (TakesFrom connectivity regions st k) }
 {}
 
 /// At a threshold of at most 1 the sieved grid is the grid: no component is smaller than one cell.
