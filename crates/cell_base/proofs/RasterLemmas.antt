@@ -23,7 +23,7 @@ pub length-rows_of : {T : Type 0} (ncols nrows : ℕ) (cells : List T) → lengt
 length-rows_of ncols zero cells = refl
 length-rows_of ncols (suc n) cells = ap suc (length-rows_of ncols n (drop ncols cells))
 
--- what stands at a place, by its place in the flat list
+-- what stands at a place, by its index in the flat list
 pub value_at-raster_of : {T : Type 0} (ncols nrows : ℕ) (cells : List T) (r c : ℕ) → r < nrows → c < ncols → value_at (raster_of ncols nrows cells) (r, c) ≡ slice_get cells (r * ncols + c)
 value_at-raster_of ncols nrows cells r c in_row in_col =
     rw (slice_get-rows_of ncols nrows cells r in_row) (grind (arith, common_steps, gets))

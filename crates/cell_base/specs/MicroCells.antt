@@ -7,8 +7,8 @@ use Rattle.cell_base.specs.Faults.{fault_of_text}
 use Rattle.cell_base.specs.declared.fault.CellFault.{CellFault}
 
 -- how many decimals a Micro has
-abbrev pub micro_places : ℕ
-micro_places = 6
+abbrev pub micro_decimals : ℕ
+micro_decimals = 6
 
 -- the ends of its units
 
@@ -30,4 +30,4 @@ clamped_micro (Ok v) = Ok (clamped least_micro most_micro v)
 
 -- a text read as a Micro
 abbrev pub micro_of : List ℕ → Result ℤ CellFault
-micro_of text = clamped_micro (scaled_of micro_places text)
+micro_of text = clamped_micro (scaled_of micro_decimals text)

@@ -21,7 +21,8 @@ four = false
 abbrev pub eight : Bool
 eight = true
 
--- one step of a connectivity: under four to a cell that shares a side, under eight to one that shares a side or a corner
+-- one step of a connectivity: under four (false) to a cell that shares a side, under eight (true) to one that shares
+-- a side or a corner
 abbrev pub IsStep : Bool → Place → Place → Type 0
 IsStep false a b = SharesSide a b
 IsStep true a b = SharesSide a b ⊎ SharesCorner a b

@@ -107,7 +107,8 @@ impl<T: Copy> Grid<T> {
 
     /// Gives each cell the same value.
     pub fn fill(&mut self, v: T)
-        ensures { self.new ≡ raster_of self.old.ncols self.old.nrows (replicate (self.old.ncols * self.old.nrows) v) }
+        ensures { self.new ≡ raster_of self.old.ncols self.old.nrows
+            (replicate (self.old.ncols * self.old.nrows) v) }
     {
         for cell in self.cells.iter_mut() {
             *cell = v;

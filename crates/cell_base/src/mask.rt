@@ -70,7 +70,8 @@ impl Mask {
 
     /// Gives each cell the same value.
     pub fn fill(&mut self, v: bool)
-        ensures { self.new ≡ raster_of self.old.ncols self.old.nrows (replicate (self.old.ncols * self.old.nrows) v) }
+        ensures { self.new ≡ raster_of self.old.ncols self.old.nrows
+            (replicate (self.old.ncols * self.old.nrows) v) }
     {
         self.cells.fill(v);
     }

@@ -1,5 +1,5 @@
 ghost use Rattle.std.specs.Prelude.{SomeIff};
-ghost use Rattle.cell_base.specs.MicroCells.{IsMicro, least_micro, micro_of, micro_places, most_micro};
+ghost use Rattle.cell_base.specs.MicroCells.{IsMicro, least_micro, micro_of, micro_decimals, most_micro};
 ghost use Rattle.cell_base.specs.Inner.Laws.{micro_reads, whole_eq, whole_order};
 
 use crate::cell::Cell;
@@ -46,7 +46,7 @@ impl Micro {
 impl Cell for Micro {
     const PLACES: u32 = 6;
 
-    ghost PLACES = { micro_places };
+    ghost PLACES = { micro_decimals };
 
     ghost units_of = { λ v. v };
 

@@ -34,7 +34,7 @@ index_before firsts order i k a b at_a at_b before = elim (cases_lt i k) [
 before_end : {T : Type 0} (cells : Raster T) (valid : Raster Bool) (numbers : Numbers) (p : Place) → AreOfOneSize cells valid numbers → IsMarked valid p → IsBefore p (cells.nrows, 0)
 before_end cells valid numbers p aligned marked = inl (marked_inside cells valid numbers p aligned marked).0
 
--- the number of a first cell is its place in the list of them
+-- the number of a first cell is its index in the list of them
 number_at : {T : Type 0} (connectivity : Bool) (cells : Raster T) (valid : Raster Bool) (numbers : Numbers) (firsts : List Place) → IsScanned connectivity cells valid numbers firsts (cells.nrows, 0) → (k : ℕ) (a : Place) → slice_get firsts k ≡ Some a → HasNumber connectivity cells valid a k
 number_at connectivity cells valid numbers firsts scan k a at =
     let within = slice_get_within firsts k a at in

@@ -1,4 +1,5 @@
--- Connected components of equal valid cells: the regions of the manuals of gdal_polygonize and gdal_sieve. The numbers are this project's own.
+-- Connected components of equal valid cells: the regions of the manuals of gdal_polygonize and gdal_sieve. The numbers
+-- are this project's own.
 use Rattle.std.specs.Prelude.{◌≡◌, ℕ, Bool, Option}
 use Rattle.cell_base.specs.Raster.{Place, Raster, value_at}
 use Rattle.cell_base.specs.Valid.{IsMarked}

@@ -15,7 +15,8 @@ abbrev pub IsInRegion : RegionTable → ℕ → Place → Type 0
 IsInRegion regions k place = value_at regions.numbers place ≡ Some (Some k)
 
 -- the table is that of the components of these cells
-pub record IsLabelling {T : Type 0} (connectivity : Bool) (cells : Raster T) (valid : Raster Bool) (regions : RegionTable) : Type 0 where
+pub record IsLabelling {T : Type 0} (connectivity : Bool) (cells : Raster T) (valid : Raster Bool)
+    (regions : RegionTable) : Type 0 where
   -- the cells, the mask and the numbers are of one size
   pub mask : AreAligned cells valid
   pub numbers : AreAligned cells regions.numbers

@@ -38,7 +38,8 @@ free_count numbers = free_in_rows numbers numbers.nrows
 
 -- of the cells that a relation leads to, those that are inside, valid and of this value have a number
 abbrev pub AreNumbered : {T : Type 0} → (Place → Type 0) → Raster T → Raster Bool → T → Numbers → Type 0
-AreNumbered reached cells valid value numbers = (p : Place) → reached p → IsInside cells p → HasValue cells valid (Some value) p → IsNumbered numbers p
+AreNumbered reached cells valid value numbers = (p : Place) → reached p → IsInside cells p
+    → HasValue cells valid (Some value) p → IsNumbered numbers p
 
 -- no cell of the set has a number
 abbrev pub AreFree : (Place → Type 0) → Numbers → Type 0
@@ -50,14 +51,16 @@ IsHere cells valid value at p = (p ≡ at) × HasValue cells valid (Some value) 
 
 -- a cell one step away, if it is inside, valid and of this value
 abbrev pub IsNearby : {T : Type 0} → Bool → Raster T → Raster Bool → T → Place → Place → Type 0
-IsNearby connectivity cells valid value at p = IsStep connectivity at p × HasValue cells valid (Some value) p × IsInside cells p
+IsNearby connectivity cells valid value at p = IsStep connectivity at p
+    × HasValue cells valid (Some value) p × IsInside cells p
 
 -- cells of this kind got this number and were put on the stack
 pub record SpreadsNumbers (may : Place → Type 0) (k : ℕ) (old new : Numbers) (stack stacked : List Place) : Type 0 where
   pub cols : new.ncols ≡ old.ncols
   pub rows : new.nrows ≡ old.nrows
   pub kept : (p : Place) (j : ℕ) → value_at old p ≡ Some (Some j) → value_at new p ≡ Some (Some j)
-  pub fresh : (p : Place) (j : ℕ) → value_at new p ≡ Some (Some j) → (value_at old p ≡ Some (Some j)) ⊎ ((j ≡ k) × may p × Contains stacked p)
+  pub fresh : (p : Place) (j : ℕ) → value_at new p ≡ Some (Some j)
+      → (value_at old p ≡ Some (Some j)) ⊎ ((j ≡ k) × may p × Contains stacked p)
   pub stack_kept : (p : Place) → Contains stack p → Contains stacked p
   pub stack_fresh : (p : Place) → Contains stacked p → Contains stack p ⊎ ((value_at new p ≡ Some (Some k)) × may p)
   pub free : free_count new ≤ free_count old
@@ -71,7 +74,8 @@ pub record FillsNumbers (set : Place → Type 0) (k : ℕ) (old new : Numbers) :
   pub cols : new.ncols ≡ old.ncols
   pub rows : new.nrows ≡ old.nrows
   pub kept : (p : Place) (j : ℕ) → value_at old p ≡ Some (Some j) → value_at new p ≡ Some (Some j)
-  pub fresh : (p : Place) (j : ℕ) → value_at new p ≡ Some (Some j) → (value_at old p ≡ Some (Some j)) ⊎ ((j ≡ k) × set p)
+  pub fresh : (p : Place) (j : ℕ) → value_at new p ≡ Some (Some j)
+      → (value_at old p ≡ Some (Some j)) ⊎ ((j ≡ k) × set p)
   pub all : (p : Place) → set p → value_at new p ≡ Some (Some k)
   pub less : free_count new + 1 ≤ free_count old
 
