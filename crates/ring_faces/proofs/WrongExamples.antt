@@ -1,16 +1,16 @@
 -- Polygons that the definition refuses.
-use Rattle.std.proofs.Common.{◌≡◌, inl, inr, false, List, [], ◌∷◌, refl, ap, subst, arith, lit<}
+use Rattle.std.proofs.Common.{◌≡◌, inl, inr, List, [], ◌∷◌, refl, ap, subst, arith, lit<}
 use Rattle.std.proofs.lemmas.Bool.{false≢true}
 use Rattle.edge_trace.proofs.BoundaryLemmas.{left_of_down, place_is}
-use Rattle.edge_trace.proofs.PlaceTests.{same_place, same_place_told}
+use Rattle.cell_base.proofs.PlaceDeciders.{same_place, same_place_complete}
 use Rattle.std.specs.Prelude.{Contains}
 use Rattle.cell_base.specs.Raster.{Place}
-use Rattle.cell_base.specs.Steps.{SharesSide}
+use Rattle.cell_base.specs.Steps.{SharesSide, four}
 use Rattle.cell_base.specs.Walk.{IsWalk, StepsInto}
 use Rattle.ring_faces.specs.LatticePolygon.{Polygon, IsCovered, IsValidPolygon}
 use Rattle.ring_faces.specs.CanonicalPolygon.{IsCanonicalPolygon}
-use Rattle.cell_base.proofs.TestLemmas.{contains_cases, has_told}
-use Rattle.ring_faces.proofs.PolygonRows.{corner_ones, frame, frame_polygon, plain, two_holed}
+use Rattle.cell_base.proofs.ListDeciders.{contains_cases, has_complete}
+use Rattle.ring_faces.proofs.CanonicalExamples.{corner_ones, frame, frame_polygon, plain, two_holed}
 
 -- two holes as one ring, which visits the corner where they touch twice
 twice_visited : ¬ IsValidPolygon (record {
@@ -52,7 +52,7 @@ hole_turned canonical =
     let found = canonical.left ((1, 1), (2, 1)) (12, lit< tt, refl) in
     let at = left_of_down 1 1 found.0 found.1 in
     let here : Contains frame (1, 1) = subst (λ (p : Place). Contains frame p) (place_is found.0 1 1 at.0 at.1) found.2 in
-    false≢true (has_told same_place same_place_told frame (1, 1) here)
+    false≢true (has_complete same_place same_place_complete frame (1, 1) here)
 
 -- a corner where the ring doesn't turn
 straight_corner : ¬ IsCanonicalPolygon (Contains frame) (record frame_polygon { shell = (0, 0) ∷ (1, 0) ∷ (3, 0) ∷ (3, 3) ∷ (0, 3) ∷ [] })
@@ -78,9 +78,9 @@ stays_first c step member = elim (contains_cases (0, 0) ((1, 1) ∷ []) c member
   ]
 ]
 
-no_walk : (set : Place → Type 0) → ((p : Place) → set p → Contains corner_pair p) → (walk : List Place) → IsWalk (StepsInto false set) (0, 0) walk (1, 1) → ⊥
-no_walk set tells [] walked = omega (arith, ap (λ (p : Place). p.0) walked)
-no_walk set tells (c ∷ cs) walked = stays_first c walked.0.0 (tells c walked.0.1)
+no_walk : (set : Place → Type 0) → ((p : Place) → set p → Contains corner_pair p) → (walk : List Place) → IsWalk (StepsInto four set) (0, 0) walk (1, 1) → ⊥
+no_walk set sound [] walked = omega (arith, ap (λ (p : Place). p.0) walked)
+no_walk set sound (c ∷ cs) walked = stays_first c walked.0.0 (sound c walked.0.1)
 
 corner_pair_has_none : (polygon : Polygon) → ¬ IsCanonicalPolygon (Contains corner_pair) polygon
 corner_pair_has_none polygon canonical =

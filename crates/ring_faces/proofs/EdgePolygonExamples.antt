@@ -6,10 +6,10 @@ use Rattle.edge_trace.specs.Edge.{HasOnLeft, HasOnRight}
 use Rattle.edge_trace.specs.Crossing.{crossing_count}
 use Rattle.ring_faces.specs.LatticePolygon.{Polygon}
 use Rattle.ring_faces.specs.EdgePolygon.{all_edges, IsEdgePolygon}
-use Rattle.cell_base.proofs.TestLemmas.{has, implies, in_box}
-use Rattle.edge_trace.proofs.PlaceTests.{same_place}
-use Rattle.ring_faces.proofs.EdgeTests.{is_edge_polygon_tells}
-use Rattle.ring_faces.proofs.PolygonRows.{corner_ones, frame, frame_polygon, notched, notched_polygon, plain, two_holed, two_holed_polygon}
+use Rattle.cell_base.proofs.ListDeciders.{has, implies, in_box}
+use Rattle.cell_base.proofs.PlaceDeciders.{same_place}
+use Rattle.ring_faces.proofs.EdgePolygonDeciders.{is_edge_polygon_sound}
+use Rattle.ring_faces.proofs.CanonicalExamples.{corner_ones, frame, frame_polygon, notched, notched_polygon, plain, two_holed, two_holed_polygon}
 
 -- in so many rows and columns the edges of all rings enclose the cells of the list and no other
 abbrev encloses : List Place → Polygon → Bool
@@ -18,7 +18,7 @@ encloses cells polygon = in_box 5 5 (λ p. implies (has same_place cells p) ((cr
 -- 1 1 1 / 1 2 1 / 1 1 2: 24 edges, 16 of them round the ones
 
 notched_edges : IsEdgePolygon (Contains notched) notched_polygon
-notched_edges = is_edge_polygon_tells notched notched_polygon refl
+notched_edges = is_edge_polygon_sound notched notched_polygon refl
 
 notched_enclosed : encloses notched notched_polygon ≡ true
 notched_enclosed = refl
@@ -27,10 +27,10 @@ notched_count : length (all_edges notched_polygon) ≡ 16
 notched_count = refl
 
 middle_edges : IsEdgePolygon (Contains ((1, 1) ∷ [])) (plain ((1, 1) ∷ (2, 1) ∷ (2, 2) ∷ (1, 2) ∷ []))
-middle_edges = is_edge_polygon_tells ((1, 1) ∷ []) _ refl
+middle_edges = is_edge_polygon_sound ((1, 1) ∷ []) _ refl
 
 corner_edges : IsEdgePolygon (Contains ((2, 2) ∷ [])) (plain ((2, 2) ∷ (3, 2) ∷ (3, 3) ∷ (2, 3) ∷ []))
-corner_edges = is_edge_polygon_tells ((2, 2) ∷ []) _ refl
+corner_edges = is_edge_polygon_sound ((2, 2) ∷ []) _ refl
 
 -- at the corner (2, 2) four edges of the ones meet. The one from below and the one that leads to the right have the cell (2, 2) on their right
 
@@ -51,12 +51,12 @@ to_the_left = ((3, lit< tt, refl), (1, lit< tt, refl))
 -- 1 1 2 / 1 2 2
 
 corner_ones_edges : IsEdgePolygon (Contains corner_ones) (plain ((0, 0) ∷ (2, 0) ∷ (2, 1) ∷ (1, 1) ∷ (1, 2) ∷ (0, 2) ∷ []))
-corner_ones_edges = is_edge_polygon_tells corner_ones _ refl
+corner_ones_edges = is_edge_polygon_sound corner_ones _ refl
 
 -- 1 1 1 / 1 2 1 / 1 1 1
 
 frame_edges : IsEdgePolygon (Contains frame) frame_polygon
-frame_edges = is_edge_polygon_tells frame frame_polygon refl
+frame_edges = is_edge_polygon_sound frame frame_polygon refl
 
 frame_enclosed : encloses frame frame_polygon ≡ true
 frame_enclosed = refl
@@ -64,7 +64,7 @@ frame_enclosed = refl
 -- 1 1 1 1 / 1 2 1 1 / 1 1 2 1 / 1 1 1 1: 24 edges round the ones
 
 two_holed_edges : IsEdgePolygon (Contains two_holed) two_holed_polygon
-two_holed_edges = is_edge_polygon_tells two_holed two_holed_polygon refl
+two_holed_edges = is_edge_polygon_sound two_holed two_holed_polygon refl
 
 two_holed_enclosed : encloses two_holed two_holed_polygon ≡ true
 two_holed_enclosed = refl
@@ -77,7 +77,7 @@ joined_holes_edges : IsEdgePolygon (Contains two_holed) (record {
   shell = (0, 0) ∷ (4, 0) ∷ (4, 4) ∷ (0, 4) ∷ [];
   holes = ((1, 1) ∷ (1, 2) ∷ (2, 2) ∷ (2, 3) ∷ (3, 3) ∷ (3, 2) ∷ (2, 2) ∷ (2, 1) ∷ []) ∷ [];
 })
-joined_holes_edges = is_edge_polygon_tells two_holed _ refl
+joined_holes_edges = is_edge_polygon_sound two_holed _ refl
 
 -- under eight, cells that share a corner alone are one component: its boundary edges are those round its parts
 
@@ -86,17 +86,17 @@ diagonal_edges : IsEdgePolygon (Contains ((1, 1) ∷ (2, 2) ∷ [])) (record {
   shell = (1, 1) ∷ (2, 1) ∷ (2, 2) ∷ (1, 2) ∷ [];
   holes = ((2, 2) ∷ (3, 2) ∷ (3, 3) ∷ (2, 3) ∷ []) ∷ [];
 })
-diagonal_edges = is_edge_polygon_tells ((1, 1) ∷ (2, 2) ∷ []) _ refl
+diagonal_edges = is_edge_polygon_sound ((1, 1) ∷ (2, 2) ∷ []) _ refl
 
 -- the ones and the twos of 1 2 / 2 1
 falling_edges : IsEdgePolygon (Contains ((0, 0) ∷ (1, 1) ∷ [])) (record {
   shell = (0, 0) ∷ (1, 0) ∷ (1, 1) ∷ (0, 1) ∷ [];
   holes = ((1, 1) ∷ (2, 1) ∷ (2, 2) ∷ (1, 2) ∷ []) ∷ [];
 })
-falling_edges = is_edge_polygon_tells ((0, 0) ∷ (1, 1) ∷ []) _ refl
+falling_edges = is_edge_polygon_sound ((0, 0) ∷ (1, 1) ∷ []) _ refl
 
 rising_edges : IsEdgePolygon (Contains ((0, 1) ∷ (1, 0) ∷ [])) (record {
   shell = (0, 1) ∷ (1, 1) ∷ (1, 2) ∷ (0, 2) ∷ [];
   holes = ((1, 0) ∷ (2, 0) ∷ (2, 1) ∷ (1, 1) ∷ []) ∷ [];
 })
-rising_edges = is_edge_polygon_tells ((0, 1) ∷ (1, 0) ∷ []) _ refl
+rising_edges = is_edge_polygon_sound ((0, 1) ∷ (1, 0) ∷ []) _ refl
