@@ -1,4 +1,4 @@
-// The five types of cells. Each row is a text and its answer.
+// The five types of cells. Each example is a text and its answer.
 use cell_base::{Cell, Micro};
 use std::alloc::Global;
 use std::process::Abort;
@@ -39,9 +39,9 @@ const MICRO: &str = "-3.4028234663852886e+38 Ok(-1000000000000000000)
 nan Err(NotNumber)";
 
 /// What a type reads, as units.
-fn reads<T: Cell>(rt: &impl Abort, alloc: Global, rows: &str) -> Result<(), Fail> {
-    for row in rows.lines() {
-        let (text, want) = row.split_once(' ').ok_or("a row")?;
+fn reads<T: Cell>(rt: &impl Abort, alloc: Global, examples: &str) -> Result<(), Fail> {
+    for example in examples.lines() {
+        let (text, want) = example.split_once(' ').ok_or("an example")?;
         let answer = match T::read(text.as_bytes()) {
             Ok(v) => Ok(v.units()),
             Err(fault) => Err(fault),

@@ -1,4 +1,4 @@
-// Rows over the top call.
+// Runs of the whole program over words and files in memory.
 use rv_outside::{Call, MemoryFolder, MemorySink};
 use std::alloc::{AllocError, Global};
 use std::test::Fail;
@@ -56,7 +56,7 @@ fn folder_with(alloc: Global, source: &[u8]) -> Result<MemoryFolder, AllocError>
 #[test]
 fn plain_grids_are_written_in_their_canonical_text(rt: HostRuntime) -> Result<(), Fail> {
     let alloc = rt.alloc();
-    let rows: [(&[u8], &[u8]); 4] = [
+    let examples: [(&[u8], &[u8]); 4] = [
         (GRID, GRID),
         (
             b"ncols 2 nrows 1 xllcorner 0 yllcorner -0 cellsize 1 007 -0",
@@ -71,17 +71,17 @@ fn plain_grids_are_written_in_their_canonical_text(rt: HostRuntime) -> Result<()
             b"ncols 2\nnrows 1\nxllcorner 7\nyllcorner 8\ncellsize 10\n10 -10\n",
         ),
     ];
-    for (source, dest) in rows {
-        let row = run_over(
+    for (source, dest) in examples {
+        let ran = run_over(
             alloc,
             &SIEVE,
             folder_with(alloc, source)?,
             MemorySink::new(alloc),
         )?;
-        assert_eq!(rt; row.status, Status::Done);
-        assert!(rt; row.has("dst.asc", Some(dest)));
-        assert!(rt; row.has("src.asc", Some(source)));
-        assert!(rt; row.said(b""));
+        assert_eq!(rt; ran.status, Status::Done);
+        assert!(rt; ran.has("dst.asc", Some(dest)));
+        assert!(rt; ran.has("src.asc", Some(source)));
+        assert!(rt; ran.said(b""));
     }
     Ok(())
 }
@@ -91,15 +91,15 @@ fn the_destination_may_be_the_source(rt: HostRuntime) -> Result<(), Fail> {
     let alloc = rt.alloc();
     let words = ["gdal_sieve", "-st", "1", "src.asc", "src.asc"];
     let source = b"ncols 1 nrows 1 xllcorner 0 yllcorner 0 cellsize 1 04";
-    let row = run_over(
+    let ran = run_over(
         alloc,
         &words,
         folder_with(alloc, source)?,
         MemorySink::new(alloc),
     )?;
-    assert_eq!(rt; row.status, Status::Done);
+    assert_eq!(rt; ran.status, Status::Done);
     assert!(rt;
-        row.has(
+        ran.has(
             "src.asc",
             Some(b"ncols 1\nnrows 1\nxllcorner 0\nyllcorner 0\ncellsize 1\n4\n")
         )
@@ -125,15 +125,15 @@ fn sources_without_a_plain_grid_are_not_built(rt: HostRuntime) -> Result<(), Fai
         b"ncols 2 nrows 1 xllcorner 39999999 yllcorner 0 cellsize 1 4 5",
     ];
     for source in sources {
-        let row = run_over(
+        let ran = run_over(
             alloc,
             &SIEVE,
             folder_with(alloc, source)?,
             MemorySink::new(alloc),
         )?;
-        assert_eq!(rt; row.status, Status::NotBuilt);
-        assert!(rt; row.said(b"not built\n"));
-        assert!(rt; row.has("dst.asc", None));
+        assert_eq!(rt; ran.status, Status::NotBuilt);
+        assert!(rt; ran.said(b"not built\n"));
+        assert!(rt; ran.has("dst.asc", None));
     }
     Ok(())
 }
@@ -141,7 +141,7 @@ fn sources_without_a_plain_grid_are_not_built(rt: HostRuntime) -> Result<(), Fai
 #[test]
 fn words_and_names_are_refused(rt: HostRuntime) -> Result<(), Fail> {
     let alloc = rt.alloc();
-    let rows: [(&[&str], Status, &[u8]); 7] = [
+    let examples: [(&[&str], Status, &[u8]); 7] = [
         (&[], Status::Usage, b"gdal_tools: no tool at word 1\n"),
         (
             &["gdal_warp"],
@@ -170,17 +170,17 @@ fn words_and_names_are_refused(rt: HostRuntime) -> Result<(), Fail> {
             b"nosuch.asc: no such file\n",
         ),
     ];
-    for (words, status, line) in rows {
-        let row = run_over(
+    for (words, status, line) in examples {
+        let ran = run_over(
             alloc,
             words,
             folder_with(alloc, GRID)?,
             MemorySink::new(alloc),
         )?;
-        assert_eq!(rt; row.status, status);
-        assert!(rt; row.said(line));
-        assert!(rt; row.has("src.asc", Some(GRID)));
-        assert!(rt; row.has("dst.asc", None));
+        assert_eq!(rt; ran.status, status);
+        assert!(rt; ran.said(line));
+        assert!(rt; ran.has("src.asc", Some(GRID)));
+        assert!(rt; ran.has("dst.asc", None));
     }
     Ok(())
 }
@@ -188,7 +188,7 @@ fn words_and_names_are_refused(rt: HostRuntime) -> Result<(), Fail> {
 #[test]
 fn the_first_failed_call_ends_the_run(rt: HostRuntime) -> Result<(), Fail> {
     let alloc = rt.alloc();
-    let rows: [(Call, u64, Status, &[u8], Option<&[u8]>); 4] = [
+    let examples: [(Call, u64, Status, &[u8], Option<&[u8]>); 4] = [
         (
             Call::Read,
             1,
@@ -218,14 +218,14 @@ fn the_first_failed_call_ends_the_run(rt: HostRuntime) -> Result<(), Fail> {
             Some(b""),
         ),
     ];
-    for (call, n, status, line, dest) in rows {
+    for (call, n, status, line, dest) in examples {
         let mut folder = folder_with(alloc, GRID)?;
         folder.fail(call, n)?;
-        let row = run_over(alloc, &SIEVE, folder, MemorySink::new(alloc))?;
-        assert_eq!(rt; row.status, status);
-        assert!(rt; row.said(line));
-        assert!(rt; row.has("dst.asc", dest));
-        assert!(rt; row.has("src.asc", Some(GRID)));
+        let ran = run_over(alloc, &SIEVE, folder, MemorySink::new(alloc))?;
+        assert_eq!(rt; ran.status, status);
+        assert!(rt; ran.said(line));
+        assert!(rt; ran.has("dst.asc", dest));
+        assert!(rt; ran.has("src.asc", Some(GRID)));
     }
     Ok(())
 }
@@ -233,14 +233,14 @@ fn the_first_failed_call_ends_the_run(rt: HostRuntime) -> Result<(), Fail> {
 #[test]
 fn a_failing_sink_changes_no_status(rt: HostRuntime) -> Result<(), Fail> {
     let alloc = rt.alloc();
-    let rows: [(u64, &[u8]); 2] = [(1, b""), (2, b"nosuch.asc")];
-    for (n, said) in rows {
+    let examples: [(u64, &[u8]); 2] = [(1, b""), (2, b"nosuch.asc")];
+    for (n, said) in examples {
         let mut err = MemorySink::new(alloc);
         err.fail(n)?;
         let words = ["gdal_sieve", "-st", "1", "nosuch.asc", "dst.asc"];
-        let row = run_over(alloc, &words, folder_with(alloc, GRID)?, err)?;
-        assert_eq!(rt; row.status, Status::Missing);
-        assert!(rt; row.said(said));
+        let ran = run_over(alloc, &words, folder_with(alloc, GRID)?, err)?;
+        assert_eq!(rt; ran.status, Status::Missing);
+        assert!(rt; ran.said(said));
     }
     Ok(())
 }

@@ -1,4 +1,4 @@
-// Frames. Each row is an extent's edges, two more numbers and the answer.
+// Frames. Each example is an extent's edges, two more numbers and the answer.
 use fixed_coord::Coord;
 use geo_transform::{Extent, Frame, FrameFault};
 use std::alloc::Global;
@@ -32,29 +32,29 @@ const BY_NUMBERS: &str = "0 3 0 0 0 BadSize
 1 2 0 39999999 1 OutOfRange
 3 2 -1.5 0 0.5 3x2,-15000000000,0,5000000000";
 
-/// The word at a place of a row.
-fn word<'a>(row: &'a str, at: usize) -> Result<&'a str, Fail> {
-    Ok(row.split(' ').nth(at).ok_or("a word")?)
+/// A word of an example, by its number.
+fn word<'a>(example: &'a str, at: usize) -> Result<&'a str, Fail> {
+    Ok(example.split(' ').nth(at).ok_or("a word")?)
 }
 
-fn coordinate(row: &str, at: usize) -> Result<Coord, Fail> {
+fn coordinate(example: &str, at: usize) -> Result<Coord, Fail> {
     Ok(
-        Coord::read(word(row, at)?.as_bytes())
+        Coord::read(word(example, at)?.as_bytes())
             .ok()
             .ok_or("a coordinate")?,
     )
 }
 
-fn count(row: &str, at: usize) -> Result<u32, Fail> {
-    Ok(word(row, at)?.parse().ok().ok_or("a count")?)
+fn count(example: &str, at: usize) -> Result<u32, Fail> {
+    Ok(word(example, at)?.parse().ok().ok_or("a count")?)
 }
 
-fn extent(row: &str) -> Result<Extent, Fail> {
+fn extent(example: &str) -> Result<Extent, Fail> {
     Ok(Extent {
-        xmin: coordinate(row, 0)?,
-        ymin: coordinate(row, 1)?,
-        xmax: coordinate(row, 2)?,
-        ymax: coordinate(row, 3)?,
+        xmin: coordinate(example, 0)?,
+        ymin: coordinate(example, 1)?,
+        xmax: coordinate(example, 2)?,
+        ymax: coordinate(example, 3)?,
     })
 }
 
@@ -75,11 +75,15 @@ fn shown(alloc: Global, answer: Result<Frame, FrameFault>) -> Result<String, Fai
 
 #[test]
 fn cuts_by_size(rt: HostRuntime) -> Result<(), Fail> {
-    for row in BY_SIZE.lines() {
-        let answer = Frame::from_extent_size(&extent(row)?, count(row, 4)?, count(row, 5)?);
+    for example in BY_SIZE.lines() {
+        let answer = Frame::from_extent_size(
+            &extent(example)?,
+            count(example, 4)?,
+            count(example, 5)?,
+        );
         assert!(rt;
-            shown(rt.alloc(), answer)?.as_str() == word(row, 6)?,
-            "{row}"
+            shown(rt.alloc(), answer)?.as_str() == word(example, 6)?,
+            "{example}"
         );
     }
     Ok(())
@@ -87,15 +91,15 @@ fn cuts_by_size(rt: HostRuntime) -> Result<(), Fail> {
 
 #[test]
 fn cuts_by_cells(rt: HostRuntime) -> Result<(), Fail> {
-    for row in BY_CELL.lines() {
-        let width = coordinate(row, 4)?;
-        let height = coordinate(row, 5)?;
+    for example in BY_CELL.lines() {
+        let width = coordinate(example, 4)?;
+        let height = coordinate(example, 5)?;
         assert!(rt; width.units() > 0);
         assert!(rt; height.units() > 0);
-        let answer = Frame::from_extent_cell(&extent(row)?, width, height);
+        let answer = Frame::from_extent_cell(&extent(example)?, width, height);
         assert!(rt;
-            shown(rt.alloc(), answer)?.as_str() == word(row, 6)?,
-            "{row}"
+            shown(rt.alloc(), answer)?.as_str() == word(example, 6)?,
+            "{example}"
         );
     }
     Ok(())
@@ -103,17 +107,17 @@ fn cuts_by_cells(rt: HostRuntime) -> Result<(), Fail> {
 
 #[test]
 fn makes_frames(rt: HostRuntime) -> Result<(), Fail> {
-    for row in BY_NUMBERS.lines() {
+    for example in BY_NUMBERS.lines() {
         let answer = Frame::make(
-            count(row, 0)?,
-            count(row, 1)?,
-            coordinate(row, 2)?,
-            coordinate(row, 3)?,
-            coordinate(row, 4)?,
+            count(example, 0)?,
+            count(example, 1)?,
+            coordinate(example, 2)?,
+            coordinate(example, 3)?,
+            coordinate(example, 4)?,
         );
         assert!(rt;
-            shown(rt.alloc(), answer)?.as_str() == word(row, 5)?,
-            "{row}"
+            shown(rt.alloc(), answer)?.as_str() == word(example, 5)?,
+            "{example}"
         );
     }
     Ok(())
@@ -121,10 +125,10 @@ fn makes_frames(rt: HostRuntime) -> Result<(), Fail> {
 
 #[test]
 fn places_corners(rt: HostRuntime) -> Result<(), Fail> {
-    let row = "0 0 5 3";
+    let example = "0 0 5 3";
     let two = Coord::from_units(20_000_000_000).ok_or("two")?;
     assert!(rt; two.units() > 0);
-    let Ok(frame) = Frame::from_extent_cell(&extent(row)?, two, two) else {
+    let Ok(frame) = Frame::from_extent_cell(&extent(example)?, two, two) else {
         return Err(Fail::from("no frame"));
     };
     assert!(rt; frame.ncols == 3);

@@ -1,4 +1,4 @@
-// Number texts, and the shortest text. Each row is a text and its answer.
+// Number texts, and the shortest text. Each example is a text and its answer.
 use fixed_coord::{Coord, ratio_round, scaled, short_whole, side, whole, write_scaled};
 use std::alloc::Global;
 use std::cmp::Ordering;
@@ -59,16 +59,16 @@ const COORDINATES: &str = "40000000.00000000004 Ok(400000000000000000)
 
 #[test]
 fn scales(rt: HostRuntime) -> Result<(), Fail> {
-    for row in AT_ONE_PLACE.lines() {
-        let (text, want) = row.split_once(' ').ok_or("a row")?;
+    for example in AT_ONE_PLACE.lines() {
+        let (text, want) = example.split_once(' ').ok_or("an example")?;
         let answer = scaled(text.as_bytes(), 1);
         assert!(rt;
             format!(in rt.alloc(); "{answer:?}")?.as_str() == want,
             "{text}"
         );
     }
-    for row in AT_FOUR_PLACES.lines() {
-        let (text, want) = row.split_once(' ').ok_or("a row")?;
+    for example in AT_FOUR_PLACES.lines() {
+        let (text, want) = example.split_once(' ').ok_or("an example")?;
         let answer = scaled(text.as_bytes(), 4);
         assert!(rt;
             format!(in rt.alloc(); "{answer:?}")?.as_str() == want,
@@ -80,8 +80,8 @@ fn scales(rt: HostRuntime) -> Result<(), Fail> {
 
 #[test]
 fn reads_whole_numbers(rt: HostRuntime) -> Result<(), Fail> {
-    for row in WHOLE.lines() {
-        let (text, want) = row.split_once(' ').ok_or("a row")?;
+    for example in WHOLE.lines() {
+        let (text, want) = example.split_once(' ').ok_or("an example")?;
         let answer = whole(text.as_bytes());
         assert!(rt;
             format!(in rt.alloc(); "{answer:?}")?.as_str() == want,
@@ -129,8 +129,8 @@ fn reads_a_long_exponent(rt: HostRuntime) -> Result<(), Fail> {
 
 #[test]
 fn reads_coordinates(rt: HostRuntime) -> Result<(), Fail> {
-    for row in COORDINATES.lines() {
-        let (text, want) = row.split_once(' ').ok_or("a row")?;
+    for example in COORDINATES.lines() {
+        let (text, want) = example.split_once(' ').ok_or("an example")?;
         let answer = Coord::read(text.as_bytes()).map(|c| c.units());
         assert!(rt;
             format!(in rt.alloc(); "{answer:?}")?.as_str() == want,

@@ -39,7 +39,7 @@ fn a_real_file_is_read_from_any_offset(rt: HostRuntime) -> Result<(), Fail> {
     fs::write(&rt, "a.txt", "0123456789")?;
     fs::write(&rt, "b.txt", "abcdefghij")?;
     let mut folder = HostFolder::new(&rt, alloc);
-    let rows: [(&str, u64, &[u8]); 6] = [
+    let examples: [(&str, u64, &[u8]); 6] = [
         ("a.txt", 0, b"0123"),
         ("a.txt", 4, b"4567"),
         ("a.txt", 1, b"1234"),
@@ -47,7 +47,7 @@ fn a_real_file_is_read_from_any_offset(rt: HostRuntime) -> Result<(), Fail> {
         ("a.txt", 5, b"5678"),
         ("b.txt", 6, b"ghij"),
     ];
-    for (name, offset, bytes) in rows {
+    for (name, offset, bytes) in examples {
         let mut block = [0u8; 4];
         assert!(rt;
             matches!(
