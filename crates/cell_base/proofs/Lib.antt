@@ -4,5 +4,8 @@ pub mod WalkLemmas
 pub mod PlaceLemmas
 pub mod OrderLemmas
 pub mod MaskLemmas
-pub mod TestLemmas
 pub mod NarrowLemmas
+pub mod ListDeciders
+pub mod PlaceDeciders
+pub mod StepDeciders
+pub mod RasterDeciders

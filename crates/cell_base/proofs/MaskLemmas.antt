@@ -24,20 +24,20 @@ mask_start cells nodata = record {
 }
 
 here_valid : {T : Type 0} (cells : Raster T) (nodata : Option T) (after : Raster Bool) (place : Place) (v : T) (b : Bool) → value_at cells place ≡ Some v → IsTrue b ↔ (nodata ≢ Some v) → value_at after place ≡ Some b → IsMarked after place ↔ IsValid cells nodata place
-here_valid cells nodata after place v b value tells set = (
+here_valid cells nodata after place v b value decides set = (
   λ marked.
       let is : Some b ≡ Some true = sym set ∙ marked in
       let holds : b ≡ true = cc in
-      (v, value, tells.0 holds),
+      (v, value, decides.0 holds),
   λ valid.
       let both : Some v ≡ Some valid.0 = sym value ∙ valid.1 in
       let same : v ≡ valid.0 = cc in
-      let holds : b ≡ true = tells.1 (λ is. valid.2 (is ∙ ap (λ w. Some w) same)) in
+      let holds : b ≡ true = decides.1 (λ is. valid.2 (is ∙ ap (λ w. Some w) same)) in
       set ∙ ap (λ c. Some c) holds,
 )
 
 pub mask_on : {T : Type 0} (cells : Raster T) (nodata : Option T) (mask after : Raster Bool) (row col : ℕ) (v : T) (b : Bool) → IsMasking cells nodata mask (row, col) → row < cells.nrows → col < cells.ncols → value_at cells (row, col) ≡ Some v → IsTrue b ↔ (nodata ≢ Some v) → SetsPlace mask after (row, col) b → IsMasking cells nodata after (row, col + 1)
-mask_on cells nodata mask after row col v b masking in_row in_col value tells sets = record {
+mask_on cells nodata mask after row col v b masking in_row in_col value decides sets = record {
   cols = sets.ncols ∙ masking.cols;
   rows = sets.nrows ∙ masking.rows;
   inside = λ p marked. elim (same_or_other p (row, col)) [
@@ -45,7 +45,7 @@ mask_on cells nodata mask after row col v b masking in_row in_col value tells se
     | inr other ↦ masking.inside p (sym (sets.others p other) ∙ marked)
   ];
   done = λ p inside before. elim (same_or_other p (row, col)) [
-    | inl same ↦ subst (λ (q : Place). IsMarked after q ↔ IsValid cells nodata q) (sym same) (here_valid cells nodata after (row, col) v b value tells sets.set)
+    | inl same ↦ subst (λ (q : Place). IsMarked after q ↔ IsValid cells nodata q) (sym same) (here_valid cells nodata after (row, col) v b value decides sets.set)
     | inr other ↦ elim (before_next p row col before) [
       | inl old ↦
           let had = masking.done p inside old in
@@ -64,11 +64,11 @@ mask_row cells nodata mask row masking = record {
 }
 
 pub mask_end : {T : Type 0} (cells : Raster T) (nodata : Option T) (mask : Raster Bool) → IsRaster cells → IsMasking cells nodata mask (cells.nrows, 0) → (p : Place) → IsMarked mask p ↔ IsValid cells nodata p
-mask_end cells nodata mask whole masking p = (
+mask_end cells nodata mask shape masking p = (
   λ marked.
       let inside = masking.inside p marked in
       (masking.done p inside (inl inside.0)).0 marked,
   λ valid.
-      let inside = inside_from_value cells p valid.0 whole valid.1 in
+      let inside = inside_from_value cells p valid.0 shape valid.1 in
       (masking.done p inside (inl inside.0)).1 valid,
 )

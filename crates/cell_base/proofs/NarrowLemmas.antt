@@ -4,23 +4,19 @@ use Rattle.std.specs.Prelude.{int_le}
 use Rattle.std.proofs.lemmas.Bool.{and_parts, and_from, cases_Bool, both_ways}
 use Rattle.std.proofs.lemmas.Int.{ints}
 use Rattle.fixed_coord.specs.declared.fault.NumberFault.{NumberFault}
-use Rattle.cell_base.specs.Numbers.{between, fault_of_text}
+use Rattle.cell_base.specs.Faults.{fault_of_text}
+use Rattle.cell_base.specs.WholeCells.{between}
+use Rattle.cell_base.specs.Inner.Laws.{int_le-true, le-int_le}
 use Rattle.cell_base.specs.declared.fault.CellFault.{CellFault}
 use Rattle.cell_base.specs.declared.fault.CellFault.TheVariants.{OutOfRange}
-
-le_true : (a b : ℤ) → a ≤ℤ b → int_le a b ≡ true
-le_true a b h = grind (arith, ints)
-
-le_from : (a b : ℤ) → int_le a b ≡ true → a ≤ℤ b
-le_from a b h = grind (arith, ints)
 
 -- between narrow ends is between wide ones
 wider : (low high least greatest v : ℤ) → least ≤ℤ low → high ≤ℤ greatest → (int_le low v && int_le v high) ≡ true → (int_le least v && int_le v greatest) ≡ true
 wider low high least greatest v a b h =
     let parts = and_parts (int_le low v) (int_le v high) h in
-    let x : low ≤ℤ v = le_from low v parts.0 in
-    let y : v ≤ℤ high = le_from v high parts.1 in
-    and_from (int_le least v) (int_le v greatest) (le_true least v (omega (arith, ints))) (le_true v greatest (omega (arith, ints)))
+    let x : low ≤ℤ v = int_le-true low v parts.0 in
+    let y : v ≤ℤ high = int_le-true v high parts.1 in
+    and_from (int_le least v) (int_le v greatest) (le-int_le least v (omega (arith, ints))) (le-int_le v greatest (omega (arith, ints)))
 
 same_ok : (n v : ℤ) (b : Bool) → ◌≡◌ {A = Result ℤ CellFault} (Ok n) (if b then Ok v else Err OutOfRange) → n ≡ v
 same_ok n v true e = cc

@@ -8,7 +8,7 @@ use Rattle.std.proofs.lemmas.Grind.{common_steps}
 use Rattle.std.proofs.lemmas.Option.{gets, get_or_from_slice_get, slice_get_past}
 use Rattle.std.proofs.Math.Nat.{mul-le-mul_right}
 use Rattle.cell_base.specs.Raster.{IsRaster, SetsPlace, raster_of, rows_of, value_at}
-use Rattle.cell_base.specs.Cells.{IsWhole}
+use Rattle.cell_base.specs.Inner.Cells.{HasCellForEachPlace}
 
 pub slice_get-rows_of : {T : Type 0} (ncols nrows : ℕ) (cells : List T) (r : ℕ) → r < nrows → slice_get (rows_of ncols nrows cells) r ≡ Some (take ncols (drop (r * ncols) cells))
 slice_get-rows_of ncols zero cells r within = absurd (omega (arith, within))
@@ -23,7 +23,7 @@ pub length-rows_of : {T : Type 0} (ncols nrows : ℕ) (cells : List T) → lengt
 length-rows_of ncols zero cells = refl
 length-rows_of ncols (suc n) cells = ap suc (length-rows_of ncols n (drop ncols cells))
 
--- what stands at a place, by its place in the flat list
+-- what stands at a place, by its index in the flat list
 pub value_at-raster_of : {T : Type 0} (ncols nrows : ℕ) (cells : List T) (r c : ℕ) → r < nrows → c < ncols → value_at (raster_of ncols nrows cells) (r, c) ≡ slice_get cells (r * ncols + c)
 value_at-raster_of ncols nrows cells r c in_row in_col =
     rw (slice_get-rows_of ncols nrows cells r in_row) (grind (arith, common_steps, gets))
@@ -52,10 +52,10 @@ abbrev IsLooked : {T : Type 0} → ℕ → ℕ → List T → List T → ℕ →
 IsLooked ncols nrows before after r c = value_at (raster_of ncols nrows after) (r, c) ≡ value_at (raster_of ncols nrows before) (r, c)
 
 -- a write at a place's index sets that place alone
-pub sets_place : {T : Type 0} (ncols nrows : ℕ) (cells : List T) (row col : ℕ) (v : T) → IsWhole ncols nrows cells → row < nrows → col < ncols → SetsPlace (raster_of ncols nrows cells) (raster_of ncols nrows (slice_set cells (row * ncols + col) v)) (row, col) v
-sets_place {T} ncols nrows cells row col v whole in_row in_col =
+pub sets_place : {T : Type 0} (ncols nrows : ℕ) (cells : List T) (row col : ℕ) (v : T) → HasCellForEachPlace ncols nrows cells → row < nrows → col < ncols → SetsPlace (raster_of ncols nrows cells) (raster_of ncols nrows (slice_set cells (row * ncols + col) v)) (row, col) v
+sets_place {T} ncols nrows cells row col v full in_row in_col =
     let after = set cells (row * ncols + col) v in
-    let at : row * ncols + col < length cells = grind (arith, rows, whole.whole) in
+    let at : row * ncols + col < length cells = grind (arith, rows, full.count) in
     let inside : (r c : ℕ) → (r, c) ≢ (row, col) → r < nrows → c < ncols → IsLooked ncols nrows cells after r c = λ r c other in_r in_c.
     let elsewhere : r * ncols + c ≢ row * ncols + col = λ same.
     let both = same_from_place r c row col ncols in_c in_col same in
@@ -76,20 +76,20 @@ sets_place {T} ncols nrows cells row col v whole in_row in_col =
       ];
     }
 
-length-row : {T : Type 0} (ncols nrows : ℕ) (cells : List T) (r : ℕ) → IsWhole ncols nrows cells → r < nrows → length (take ncols (drop (r * ncols) cells)) ≡ ncols
-length-row ncols nrows cells r whole within =
+length-row : {T : Type 0} (ncols nrows : ℕ) (cells : List T) (r : ℕ) → HasCellForEachPlace ncols nrows cells → r < nrows → length (take ncols (drop (r * ncols) cells)) ≡ ncols
+length-row ncols nrows cells r full within =
     let more : suc r * ncols ≤ nrows * ncols = mul-le-mul_right ncols within in
-    let enough : r * ncols + ncols ≤ length cells = omega (arith, whole.whole, more) in
+    let enough : r * ncols + ncols ≤ length cells = omega (arith, full.count, more) in
     grind (arith, common_steps, enough)
 
 -- a vector with a value for each cell makes a grid
-pub whole_makes_raster : {T : Type 0} (ncols nrows : ℕ) (cells : List T) → IsWhole ncols nrows cells → IsRaster (raster_of ncols nrows cells)
-whole_makes_raster ncols nrows cells whole = record {
-  some_cols = whole.some_cols;
-  some_rows = whole.some_rows;
-  small = whole.small;
+pub raster_from_cells : {T : Type 0} (ncols nrows : ℕ) (cells : List T) → HasCellForEachPlace ncols nrows cells → IsRaster (raster_of ncols nrows cells)
+raster_from_cells ncols nrows cells full = record {
+  some_cols = full.some_cols;
+  some_rows = full.some_rows;
+  small = full.small;
   height = length-rows_of ncols nrows cells;
   width = λ k d within.
       let row : slice_get (rows_of ncols nrows cells) k ≡ Some (take ncols (drop (k * ncols) cells)) = slice_get-rows_of ncols nrows cells k (omega (arith, within, length-rows_of ncols nrows cells)) in
-      rw (get_or_from_slice_get _ k _ d row) (length-row ncols nrows cells k whole (omega (arith, within, length-rows_of ncols nrows cells)));
+      rw (get_or_from_slice_get _ k _ d row) (length-row ncols nrows cells k full (omega (arith, within, length-rows_of ncols nrows cells)));
 }

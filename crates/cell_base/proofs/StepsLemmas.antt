@@ -12,7 +12,7 @@ side_back a b (inl (row, next)) = inl (sym row, next_back a.1 b.1 next)
 side_back a b (inr (col, next)) = inr (sym col, next_back a.0 b.0 next)
 
 -- a step leads back
-pub step_back : (eight : Bool) (a b : Place) → IsStep eight a b → IsStep eight b a
+pub step_back : (connectivity : Bool) (a b : Place) → IsStep connectivity a b → IsStep connectivity b a
 step_back false a b step = side_back a b step
 step_back true a b (inl side) = inl (side_back a b side)
 step_back true a b (inr corner) = inr (next_back a.0 b.0 corner.0, next_back a.1 b.1 corner.1)
@@ -38,7 +38,7 @@ next_of_less : (m n : ℕ) → m ≡ n + 1 → AreNext m n
 next_of_less m n is = inl is
 
 -- each of the neighbours is a step away
-pub neighbour_is_step : (eight : Bool) (k : ℕ) (a b : Place) → k < step_count eight → IsNeighbour k a b → IsStep eight a b
+pub neighbour_is_step : (connectivity : Bool) (k : ℕ) (a b : Place) → k < step_count connectivity → IsNeighbour k a b → IsStep connectivity a b
 neighbour_is_step false zero a b in_count is = inr (sym is.1, inl is.0)
 neighbour_is_step false (suc zero) a b in_count is = inl (sym is.0, inl is.1)
 neighbour_is_step false (suc (suc zero)) a b in_count is = inl (sym is.0, inr is.1)
@@ -67,7 +67,7 @@ corner_is_neighbour a b (inr down, inl left) = (6, lit< tt, (down, left))
 corner_is_neighbour a b (inr down, inr right) = (7, lit< tt, (down, right))
 
 -- each step leads to one of the neighbours
-pub step_is_neighbour : (eight : Bool) (a b : Place) → IsStep eight a b → (k : ℕ) × (k < step_count eight) × IsNeighbour k a b
+pub step_is_neighbour : (connectivity : Bool) (a b : Place) → IsStep connectivity a b → (k : ℕ) × (k < step_count connectivity) × IsNeighbour k a b
 step_is_neighbour false a b side = side_is_neighbour a b side
 step_is_neighbour true a b (inl side) =
     let found = side_is_neighbour a b side in

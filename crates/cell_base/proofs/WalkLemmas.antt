@@ -10,25 +10,25 @@ walk-append step a b c [] ys first second = rw first second
 walk-append step a b c (x ∷ xs) ys first second = (first.0, walk-append step x b c xs ys first.1 second)
 
 -- the last cell of a walk in a set is in the set
-walk_end : (eight : Bool) (set : Place → Type 0) (a b : Place) (walk : List Place) → set a → IsWalk (StepsInto eight set) a walk b → set b
-walk_end eight set a b [] start walked = rw (← walked) start
-walk_end eight set a b (c ∷ cs) start walked = walk_end eight set c b cs walked.0.1 walked.1
+walk_end : (connectivity : Bool) (set : Place → Type 0) (a b : Place) (walk : List Place) → set a → IsWalk (StepsInto connectivity set) a walk b → set b
+walk_end connectivity set a b [] start walked = rw (← walked) start
+walk_end connectivity set a b (c ∷ cs) start walked = walk_end connectivity set c b cs walked.0.1 walked.1
 
-pub joined_end : (eight : Bool) (set : Place → Type 0) (a b : Place) → IsJoined eight set a b → set b
-joined_end eight set a b joined = walk_end eight set a b joined.1 joined.0 joined.2
+pub joined_end : (connectivity : Bool) (set : Place → Type 0) (a b : Place) → IsJoined connectivity set a b → set b
+joined_end connectivity set a b joined = walk_end connectivity set a b joined.1 joined.0 joined.2
 
-pub joined_itself : (eight : Bool) (set : Place → Type 0) (a : Place) → set a → IsJoined eight set a a
-joined_itself eight set a start = (start, [], refl)
+pub joined_itself : (connectivity : Bool) (set : Place → Type 0) (a : Place) → set a → IsJoined connectivity set a a
+joined_itself connectivity set a start = (start, [], refl)
 
-pub joined_more : (eight : Bool) (set : Place → Type 0) (a b c : Place) → IsJoined eight set a b → IsStep eight b c → set c → IsJoined eight set a c
-joined_more eight set a b c joined step end = (joined.0, joined.1 ++ c ∷ [], walk-append (StepsInto eight set) a b c joined.1 (c ∷ []) joined.2 ((step, end), refl))
+pub joined_more : (connectivity : Bool) (set : Place → Type 0) (a b c : Place) → IsJoined connectivity set a b → IsStep connectivity b c → set c → IsJoined connectivity set a c
+joined_more connectivity set a b c joined step end = (joined.0, joined.1 ++ c ∷ [], walk-append (StepsInto connectivity set) a b c joined.1 (c ∷ []) joined.2 ((step, end), refl))
 
-pub joined_trans : (eight : Bool) (set : Place → Type 0) (a b c : Place) → IsJoined eight set a b → IsJoined eight set b c → IsJoined eight set a c
-joined_trans eight set a b c first second = (first.0, first.1 ++ second.1, walk-append (StepsInto eight set) a b c first.1 second.1 first.2 second.2)
+pub joined_trans : (connectivity : Bool) (set : Place → Type 0) (a b c : Place) → IsJoined connectivity set a b → IsJoined connectivity set b c → IsJoined connectivity set a c
+joined_trans connectivity set a b c first second = (first.0, first.1 ++ second.1, walk-append (StepsInto connectivity set) a b c first.1 second.1 first.2 second.2)
 
-walk_back : (eight : Bool) (set : Place → Type 0) (a b : Place) (walk : List Place) → set a → IsWalk (StepsInto eight set) a walk b → IsJoined eight set b a
-walk_back eight set a b [] start walked = (rw (← walked) start, [], sym walked)
-walk_back eight set a b (c ∷ cs) start walked = joined_more eight set b c a (walk_back eight set c b cs walked.0.1 walked.1) (step_back eight a c walked.0.0) start
+walk_back : (connectivity : Bool) (set : Place → Type 0) (a b : Place) (walk : List Place) → set a → IsWalk (StepsInto connectivity set) a walk b → IsJoined connectivity set b a
+walk_back connectivity set a b [] start walked = (rw (← walked) start, [], sym walked)
+walk_back connectivity set a b (c ∷ cs) start walked = joined_more connectivity set b c a (walk_back connectivity set c b cs walked.0.1 walked.1) (step_back connectivity a c walked.0.0) start
 
-pub joined_sym : (eight : Bool) (set : Place → Type 0) (a b : Place) → IsJoined eight set a b → IsJoined eight set b a
-joined_sym eight set a b joined = walk_back eight set a b joined.1 joined.0 joined.2
+pub joined_sym : (connectivity : Bool) (set : Place → Type 0) (a b : Place) → IsJoined connectivity set a b → IsJoined connectivity set b a
+joined_sym connectivity set a b joined = walk_back connectivity set a b joined.1 joined.0 joined.2

@@ -1,8 +1,10 @@
 pub mod Raster
-pub mod Cells
 pub mod Steps
 pub mod Order
 pub mod Walk
 pub mod Valid
-pub mod Numbers
-pub mod Laws
+pub mod Clamped
+pub mod Faults
+pub mod WholeCells
+pub mod MicroCells
+pub mod Inner

@@ -28,6 +28,13 @@ pub record IsRaster {T : Type 0} (grid : Raster T) : Type 0 where
   pub height : length grid.rows ≡ grid.nrows
   pub width : All (λ row. length row ≡ grid.ncols) grid.rows
 
+-- two grids of one size
+pub record AreAligned {A B : Type 0} (a : Raster A) (b : Raster B) : Type 0 where
+  pub first : IsRaster a
+  pub second : IsRaster b
+  pub ncols : b.ncols ≡ a.ncols
+  pub nrows : b.nrows ≡ a.nrows
+
 -- the rows that a list of cells makes, row after row
 abbrev pub rows_of : {T : Type 0} → ℕ → ℕ → List T → List (List T)
 rows_of ncols zero cells = []

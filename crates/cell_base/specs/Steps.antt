@@ -1,5 +1,5 @@
 -- The cells round a cell, and the steps of the two connectivities.
-use Rattle.std.specs.Prelude.{◌≡◌, ℕ, ◌+◌, ◌⊎◌, Bool, true, false, List, [], ◌∷◌, IsSomeAnd, slice_get, if◌then◌else◌}
+use Rattle.std.specs.Prelude.{◌≡◌, ℕ, ◌+◌, ◌⊎◌, Bool, true, false, List, [], ◌∷◌, ◌++◌, IsSomeAnd, slice_get, if◌then◌else◌}
 use Rattle.cell_base.specs.Raster.{Place}
 
 -- one of the two numbers is one more than the other
@@ -14,14 +14,22 @@ SharesSide a b = ((a.0 ≡ b.0) × AreNext a.1 b.1) ⊎ ((a.1 ≡ b.1) × AreNex
 abbrev pub SharesCorner : Place → Place → Type 0
 SharesCorner a b = AreNext a.0 b.0 × AreNext a.1 b.1
 
--- one step of the connectivity: to a cell that shares a side, or under eight a side or a corner
+-- the two connectivities, as the manuals' options -4 and -8 name them: whether a shared corner joins, too
+abbrev pub four : Bool
+four = false
+
+abbrev pub eight : Bool
+eight = true
+
+-- one step of a connectivity: under four (false) to a cell that shares a side, under eight (true) to one that shares
+-- a side or a corner
 abbrev pub IsStep : Bool → Place → Place → Type 0
 IsStep false a b = SharesSide a b
 IsStep true a b = SharesSide a b ⊎ SharesCorner a b
 
 -- the number of steps from a cell, those that leave the grid included
 abbrev pub step_count : Bool → ℕ
-step_count eight = if eight then 8 else 4
+step_count connectivity = if connectivity then 8 else 4
 
 -- how a number changes
 pub data Change : Type 0 where
@@ -35,9 +43,17 @@ Changes less m n = m ≡ n + 1
 Changes same m n = n ≡ m
 Changes more m n = n ≡ m + 1
 
--- the changes of row and column, in the order up, left, right, down, up-left, up-right, down-left, down-right
+-- the changes of row and column: up, left, right and down
+abbrev pub side_ways : List (Change × Change)
+side_ways = (less, same) ∷ (same, less) ∷ (same, more) ∷ (more, same) ∷ []
+
+-- up-left, up-right, down-left and down-right
+abbrev pub corner_ways : List (Change × Change)
+corner_ways = (less, less) ∷ (less, more) ∷ (more, less) ∷ (more, more) ∷ []
+
+-- all of them, in this order
 abbrev pub ways : List (Change × Change)
-ways = (less, same) ∷ (same, less) ∷ (same, more) ∷ (more, same) ∷ (less, less) ∷ (less, more) ∷ (more, less) ∷ (more, more) ∷ []
+ways = side_ways ++ corner_ways
 
 -- the second cell is the neighbour of the first in the way of this number
 abbrev pub IsNeighbour : ℕ → Place → Place → Type 0

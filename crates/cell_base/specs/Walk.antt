@@ -10,12 +10,12 @@ IsWalk step a (c ∷ cs) b = step a c × IsWalk step c cs b
 
 -- a step of the connectivity to a cell of the set
 abbrev pub StepsInto : Bool → (Place → Type 0) → Place → Place → Type 0
-StepsInto eight set a b = IsStep eight a b × set b
+StepsInto connectivity set a b = IsStep connectivity a b × set b
 
 -- a list of cells leads from the one to the other, all in the set, each one step from the cell before it
 abbrev pub IsJoined : Bool → (Place → Type 0) → Place → Place → Type 0
-IsJoined eight set a b = set a × (walk : List Place) × IsWalk (StepsInto eight set) a walk b
+IsJoined connectivity set a b = set a × (walk : List Place) × IsWalk (StepsInto connectivity set) a walk b
 
 -- the cells of the set are joined among themselves
 abbrev pub IsConnected : Bool → (Place → Type 0) → Type 0
-IsConnected eight set = (a b : Place) → set a → set b → IsJoined eight set a b
+IsConnected connectivity set = (a b : Place) → set a → set b → IsJoined connectivity set a b

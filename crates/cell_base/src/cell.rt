@@ -1,5 +1,4 @@
-// What a cell of a grid is.
-use super::fault::CellFault;
+use crate::fault::CellFault;
 use std::alloc::AllocError;
 
 /// A type of cells: numbers of a fixed unit between two ends.
@@ -7,7 +6,7 @@ pub trait Cell: Copy + Eq + Ord {
     ghost use Rattle.std.specs.Prelude.{◌≡◌, ◌++◌, ◌↔◌, ◌≤ℤ◌, IsTrue, List, OnErr, OnOk, Ok, Result, ℕ, ℤ};
     ghost use Rattle.std.specs.Ordering.{int_cmp};
     ghost use Rattle.fixed_coord.specs.Shortest.{shortest};
-    ghost use Rattle.cell_base.specs.Numbers.{clamped};
+    ghost use Rattle.cell_base.specs.Clamped.{clamped};
     ghost use Rattle.cell_base.specs.declared.fault.CellFault.{CellFault};
 
     /// How many decimals a value has: its unit is 10^-PLACES.
@@ -62,5 +61,6 @@ pub trait Cell: Copy + Eq + Ord {
     ghost order_units: { (a b : Self) → Self.cmp a b ≡ int_cmp (units_of a) (units_of b) };
 
     /// Reading what was written of a value gives it back.
-    ghost reads_written: { (v : Self) → least ≤ℤ units_of v → units_of v ≤ℤ greatest → read_of (shortest (units_of v) PLACES) ≡ Ok v };
+    ghost reads_written: { (v : Self) → least ≤ℤ units_of v → units_of v ≤ℤ greatest
+        → read_of (shortest (units_of v) PLACES) ≡ Ok v };
 }

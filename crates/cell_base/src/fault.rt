@@ -1,6 +1,5 @@
-// Why a text is no cell.
 ghost use Rattle.std.specs.Prelude.{◌≡◌};
-ghost use Rattle.cell_base.specs.Numbers.{fault_of_text};
+ghost use Rattle.cell_base.specs.Faults.{fault_of_text};
 
 use fixed_coord::NumberFault;
 

@@ -1,4 +1,3 @@
-// A grid of values in one flat vector.
 ghost use Rattle.std.specs.Prelude.{◌≡◌, ◌*◌, ◌<◌, ◌≤◌, Some, replicate, IfOk, length, slice_get};
 ghost use Rattle.cell_base.specs.Raster.{IsRaster, SetsPlace, most_cells, raster_of, value_at};
 
@@ -10,20 +9,20 @@ use std::marker::Model;
 pub struct Grid<T> {
     ncols: u32,
     nrows: u32,
-    // row after row, from the top
+    // one flat vector: row after row, from the top
     cells: Vec<T>,
 }
 
 impl<T> Model for Grid<T> {
     ghost use Rattle.std.specs.Prelude.{◌≡◌, ◌*◌, ◌<◌, ◌≤◌, length};
     ghost use Rattle.cell_base.specs.Raster.{Raster, most_cells, raster_of};
-    ghost use Rattle.cell_base.specs.Cells.{IsWhole};
+    ghost use Rattle.cell_base.specs.Inner.Cells.{HasCellForEachPlace};
 
     ghost Value = { Raster T };
 
     ghost view = { λ g. raster_of g.ncols g.nrows g.cells.items };
 
-    ghost invariant = { λ g. IsWhole g.ncols g.nrows g.cells.items };
+    ghost invariant = { λ g. HasCellForEachPlace g.ncols g.nrows g.cells.items };
 }
 
 impl<T: Copy> Grid<T> {
@@ -51,7 +50,7 @@ impl<T: Copy> Grid<T> {
         requires cols { 0 < ncols }
         requires rows { 0 < nrows }
         requires small { ncols * nrows ≤ most_cells }
-        requires whole { length cells.items ≡ ncols * nrows }
+        requires count { length cells.items ≡ ncols * nrows }
         ensures { result ≡ raster_of ncols nrows cells.items }
     {
         Grid {
@@ -108,7 +107,8 @@ impl<T: Copy> Grid<T> {
 
     /// Gives each cell the same value.
     pub fn fill(&mut self, v: T)
-        ensures { self.new ≡ raster_of self.old.ncols self.old.nrows (replicate (self.old.ncols * self.old.nrows) v) }
+        ensures { self.new ≡ raster_of self.old.ncols self.old.nrows
+            (replicate (self.old.ncols * self.old.nrows) v) }
     {
         for cell in self.cells.iter_mut() {
             *cell = v;

@@ -1,5 +1,3 @@
-// The whole types by name.
-
 /// A whole type of cells.
 #[derive(Clone, Copy, Debug, PartialEq, Eq)]
 pub enum CellKind {

@@ -1,4 +1,3 @@
-// A mask: a truth value for each cell of a grid.
 ghost use Rattle.std.specs.Prelude.{◌≡◌, ◌≢◌, ◌*◌, ◌<◌, ◌≤◌, ◌↔◌, Some, replicate, IfOk, IsTrue};
 ghost use Rattle.cell_base.specs.Raster.{IsRaster, Place, SetsPlace, most_cells, raster_of, value_at};
 ghost use Rattle.cell_base.specs.Valid.{IsMarked, IsValid};
@@ -45,7 +44,8 @@ impl Mask {
 
     /// The number of rows.
     pub fn nrows(&self) -> u32
-        ensures { result ≡ self.now.nrows }
+        ensures value { result ≡ self.now.nrows }
+        ensures shape { IsRaster self.now }
     {
         self.cells.nrows()
     }
@@ -70,7 +70,8 @@ impl Mask {
 
     /// Gives each cell the same value.
     pub fn fill(&mut self, v: bool)
-        ensures { self.new ≡ raster_of self.old.ncols self.old.nrows (replicate (self.old.ncols * self.old.nrows) v) }
+        ensures { self.new ≡ raster_of self.old.ncols self.old.nrows
+            (replicate (self.old.ncols * self.old.nrows) v) }
     {
         self.cells.fill(v);
     }
@@ -96,12 +97,12 @@ impl Mask {
     }
 }
 
-/// Whether a value isn't the nodata value.
+// Whether a value isn't the nodata value.
 fn differs<T: Cell>(nodata: Option<T>, value: T) -> bool
     ensures { IsTrue result ↔ (nodata ≢ Some value) }
 {
     match nodata {
         None => true,
-        Some(nodata) => nodata.units() != value.units(),
+        Some(nodata) => nodata != value,
     }
 }

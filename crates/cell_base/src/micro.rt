@@ -1,15 +1,14 @@
-// Cells of six decimals.
 ghost use Rattle.std.specs.Prelude.{SomeIff};
-ghost use Rattle.cell_base.specs.Numbers.{IsMicro, least_micro, micro_of, most_micro};
-ghost use Rattle.cell_base.specs.Laws.{micro_reads, whole_eq, whole_order};
+ghost use Rattle.cell_base.specs.MicroCells.{IsMicro, least_micro, micro_of, micro_decimals, most_micro};
+ghost use Rattle.cell_base.specs.Inner.Laws.{micro_reads, whole_eq, whole_order};
 
-use super::cell::Cell;
-use super::fault::CellFault;
+use crate::cell::Cell;
+use crate::fault::CellFault;
 use fixed_coord::{scaled, write_scaled};
 use std::alloc::AllocError;
 use std::marker::Model;
 
-/// The most units that a Micro has.
+// The most units that a Micro has.
 const MOST: i64 = 1_000_000_000_000_000_000;
 
 /// A number of six decimals, from -10^12 to 10^12. Contracts see its number of units of 10^-6.
@@ -20,7 +19,7 @@ pub struct Micro {
 
 impl Model for Micro {
     ghost use Rattle.std.specs.Prelude.{ℤ};
-    ghost use Rattle.cell_base.specs.Numbers.{IsMicro};
+    ghost use Rattle.cell_base.specs.MicroCells.{IsMicro};
 
     ghost Value = { ℤ };
 
@@ -47,7 +46,7 @@ impl Micro {
 impl Cell for Micro {
     const PLACES: u32 = 6;
 
-    ghost PLACES = { 6 };
+    ghost PLACES = { micro_decimals };
 
     ghost units_of = { λ v. v };
 
@@ -78,8 +77,10 @@ impl Cell for Micro {
     }
 
     fn clamp_from(v: i128) -> Micro {
-        let held = num_traits::clamp(v, i128::from(-MOST), i128::from(MOST));
-        Micro { units: held as i64 }
+        let units = num_traits::clamp(v, i128::from(-MOST), i128::from(MOST));
+        Micro {
+            units: units as i64,
+        }
     }
 
     fn read(text: &[u8]) -> Result<Micro, CellFault> {

@@ -1,4 +1,3 @@
-// The cells round a cell.
 ghost use Rattle.std.specs.Prelude.{◌≡◌, ◌<◌, ◌≤◌, IfSome, IfNone};
 ghost use Rattle.cell_base.specs.Raster.{Place, most_cells};
 ghost use Rattle.cell_base.specs.Steps.{IsNeighbour, step_count};
@@ -25,7 +24,8 @@ impl<const EIGHT: bool> Steps<EIGHT> {
         requires k { k < step_count EIGHT }
         ensures inside { IfSome result (λ to. (to.0 < nrows) × (to.1 < ncols)) }
         ensures step { IfSome result (λ to. IsNeighbour k (row, col) to) }
-        ensures none { IfNone result ((to : Place) → to.0 < nrows → to.1 < ncols → IsNeighbour k (row, col) to → ⊥) }
+        ensures none { IfNone result
+            ((to : Place) → to.0 < nrows → to.1 < ncols → ¬ IsNeighbour k (row, col) to) }
     {
         let up = row > 0;
         let left = col > 0;

@@ -1,18 +1,21 @@
 // The four whole types of cells.
 ghost use Rattle.std.specs.Prelude.{◌≡◌, ◌++◌, ◌≤ℤ◌, OnErr, OnOk, Ok, neg_ℤ, pos, refl, unsigned_abs};
 ghost use Rattle.fixed_coord.specs.Shortest.{shortest};
-ghost use Rattle.cell_base.specs.Numbers.{between, clamped, whole_between};
-ghost use Rattle.cell_base.specs.Laws.{byte_eq, byte_order, byte_reads, byte_same, whole_eq, whole_order, whole_reads};
+ghost use Rattle.cell_base.specs.Clamped.{clamped};
+ghost use Rattle.cell_base.specs.WholeCells.{between, whole_between};
+ghost use Rattle.cell_base.specs.WholeCells.{least_byte, least_int16, least_int32, least_int64};
+ghost use Rattle.cell_base.specs.WholeCells.{most_byte, most_int16, most_int32, most_int64};
+ghost use Rattle.cell_base.specs.Inner.Laws.{byte_eq, byte_order, byte_reads, byte_same, whole_eq, whole_order, whole_reads};
 
-use super::cell::Cell;
-use super::fault::CellFault;
+use crate::cell::Cell;
+use crate::fault::CellFault;
 use fixed_coord::{short_whole, whole};
 use itoa::Buffer;
 use std::alloc::AllocError;
 
-/// The whole number of a text. A short text of digits, by far the commonest cell, takes the narrow way.
+// The whole number of a text. A short text of digits, by far the commonest cell, takes the narrow way.
 fn read_whole(text: &[u8]) -> Result<i64, CellFault>
-    ensures { result ≡ whole_between (λ n. n) (neg_ℤ (pos 9223372036854775808)) (pos 9223372036854775807) text.now }
+    ensures { result ≡ whole_between (λ n. n) least_int64 most_int64 text.now }
 {
     if let Some(n) = short_whole(text) {
         return Ok(n);
@@ -21,7 +24,7 @@ fn read_whole(text: &[u8]) -> Result<i64, CellFault>
     num_traits::cast(n).ok_or(CellFault::OutOfRange)
 }
 
-/// Appends the decimal text of a whole number.
+// Appends the decimal text of a whole number.
 fn write_whole(n: i64, out: &mut Vec<u8>) -> Result<(), AllocError>
     ensures ok { OnOk result (out.new.items ≡ out.old.items ++ shortest n 0) }
     ensures err { OnErr result (out.new.items ≡ out.old.items) }
@@ -31,7 +34,7 @@ fn write_whole(n: i64, out: &mut Vec<u8>) -> Result<(), AllocError>
     Ok(())
 }
 
-/// A number, or the nearer of two ends.
+// A number, or the nearer of two ends.
 fn clamp_whole(v: i128, low: i64, high: i64) -> i64
     requires { low ≤ℤ high }
     ensures { result ≡ clamped low high v }
@@ -46,11 +49,11 @@ impl Cell for i64 {
 
     ghost units_of = { λ v. v };
 
-    ghost least = { neg_ℤ (pos 9223372036854775808) };
+    ghost least = { least_int64 };
 
-    ghost greatest = { pos 9223372036854775807 };
+    ghost greatest = { most_int64 };
 
-    ghost read_of = { whole_between (λ n. n) (neg_ℤ (pos 9223372036854775808)) (pos 9223372036854775807) };
+    ghost read_of = { whole_between (λ n. n) least_int64 most_int64 };
 
     ghost same_units = { λ a b same. same };
 
@@ -58,7 +61,7 @@ impl Cell for i64 {
 
     ghost order_units = { whole_order };
 
-    ghost reads_written = { whole_reads (neg_ℤ (pos 9223372036854775808)) (pos 9223372036854775807) refl refl };
+    ghost reads_written = { whole_reads least_int64 most_int64 refl refl };
 
     fn lowest() -> i64 {
         i64::MIN
@@ -92,11 +95,11 @@ impl Cell for i32 {
 
     ghost units_of = { λ v. v };
 
-    ghost least = { neg_ℤ (pos 2147483648) };
+    ghost least = { least_int32 };
 
-    ghost greatest = { pos 2147483647 };
+    ghost greatest = { most_int32 };
 
-    ghost read_of = { whole_between (λ n. n) (neg_ℤ (pos 2147483648)) (pos 2147483647) };
+    ghost read_of = { whole_between (λ n. n) least_int32 most_int32 };
 
     ghost same_units = { λ a b same. same };
 
@@ -104,7 +107,7 @@ impl Cell for i32 {
 
     ghost order_units = { whole_order };
 
-    ghost reads_written = { whole_reads (neg_ℤ (pos 2147483648)) (pos 2147483647) refl refl };
+    ghost reads_written = { whole_reads least_int32 most_int32 refl refl };
 
     fn lowest() -> i64 {
         i64::from(i32::MIN)
@@ -131,9 +134,9 @@ impl Cell for i32 {
     }
 }
 
-/// A whole number as an `i32`, if the type has it.
+// A whole number as an `i32`, if the type has it.
 fn narrow_i32(n: i64) -> Result<i32, CellFault>
-    ensures { result ≡ between (λ n. n) (neg_ℤ (pos 2147483648)) (pos 2147483647) (Ok n) }
+    ensures { result ≡ between (λ n. n) least_int32 most_int32 (Ok n) }
 {
     num_traits::cast(n).ok_or(CellFault::OutOfRange)
 }
@@ -145,11 +148,11 @@ impl Cell for i16 {
 
     ghost units_of = { λ v. v };
 
-    ghost least = { neg_ℤ (pos 32768) };
+    ghost least = { least_int16 };
 
-    ghost greatest = { pos 32767 };
+    ghost greatest = { most_int16 };
 
-    ghost read_of = { whole_between (λ n. n) (neg_ℤ (pos 32768)) (pos 32767) };
+    ghost read_of = { whole_between (λ n. n) least_int16 most_int16 };
 
     ghost same_units = { λ a b same. same };
 
@@ -157,7 +160,7 @@ impl Cell for i16 {
 
     ghost order_units = { whole_order };
 
-    ghost reads_written = { whole_reads (neg_ℤ (pos 32768)) (pos 32767) refl refl };
+    ghost reads_written = { whole_reads least_int16 most_int16 refl refl };
 
     fn lowest() -> i64 {
         i64::from(i16::MIN)
@@ -184,9 +187,9 @@ impl Cell for i16 {
     }
 }
 
-/// A whole number as an `i16`, if the type has it.
+// A whole number as an `i16`, if the type has it.
 fn narrow_i16(n: i64) -> Result<i16, CellFault>
-    ensures { result ≡ between (λ n. n) (neg_ℤ (pos 32768)) (pos 32767) (Ok n) }
+    ensures { result ≡ between (λ n. n) least_int16 most_int16 (Ok n) }
 {
     num_traits::cast(n).ok_or(CellFault::OutOfRange)
 }
@@ -198,11 +201,11 @@ impl Cell for u8 {
 
     ghost units_of = { λ v. pos v };
 
-    ghost least = { pos 0 };
+    ghost least = { least_byte };
 
-    ghost greatest = { pos 255 };
+    ghost greatest = { most_byte };
 
-    ghost read_of = { whole_between unsigned_abs (pos 0) (pos 255) };
+    ghost read_of = { whole_between unsigned_abs least_byte most_byte };
 
     ghost same_units = { byte_same };
 
@@ -237,9 +240,9 @@ impl Cell for u8 {
     }
 }
 
-/// A whole number as a `u8`, if the type has it.
+// A whole number as a `u8`, if the type has it.
 fn narrow_u8(n: i64) -> Result<u8, CellFault>
-    ensures { result ≡ between unsigned_abs (pos 0) (pos 255) (Ok n) }
+    ensures { result ≡ between unsigned_abs least_byte most_byte (Ok n) }
 {
     num_traits::cast(n).ok_or(CellFault::OutOfRange)
 }

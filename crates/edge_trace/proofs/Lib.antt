@@ -1,3 +1,4 @@
-pub mod PlaceTests
+pub mod EdgeDeciders
 pub mod ParityLemmas
 pub mod BoundaryLemmas
+pub mod EdgeTableExamples

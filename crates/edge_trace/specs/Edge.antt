@@ -1,4 +1,5 @@
--- Directed unit edges over the corners of cells, and the boundary of a set of cells. This project's own, after the rule that a polygon's rings run round what they enclose.
+-- Directed unit edges over the corners of cells, and the boundary of a set of cells. This project's own, after the
+-- rule that a polygon's rings run round what they enclose.
 use Rattle.std.specs.Prelude.{◌≡◌, ℕ, ◌+◌, ◌⊎◌, List, [], ◌∷◌, Contains}
 use Rattle.cell_base.specs.Raster.{Place}
 use Rattle.cell_base.specs.Steps.{AreNext}
@@ -19,7 +20,8 @@ turned e = (e.1, e.0)
 abbrev pub IsUnitEdge : Edge → Type 0
 IsUnitEdge e = ((e.0.0 ≡ e.1.0) × AreNext e.0.1 e.1.1) ⊎ ((e.0.1 ≡ e.1.1) × AreNext e.0.0 e.1.0)
 
--- the unit edges round a cell that have it on their left: down its left side, right below it, up its right side, left above it
+-- the unit edges round a cell that have it on their left: down its left side, to the right below it, up its right
+-- side, to the left above it
 abbrev pub edges_round : Place → List Edge
 edges_round (r, c) =
     ((r, c), (r + 1, c)) ∷ ((r + 1, c), (r + 1, c + 1)) ∷ ((r + 1, c + 1), (r, c + 1)) ∷ ((r, c + 1), (r, c)) ∷ []

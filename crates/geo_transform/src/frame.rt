@@ -38,7 +38,7 @@ impl Frame {
         cell: Coord,
     ) -> Result<Frame, FrameFault>
         ensures answer { result ≡ frame_or_fault (square_layout ncols nrows xll yll cell) }
-        ensures frame { IfOk result (λ f. IsFrame f) }
+        ensures frame { IfOk result IsFrame }
     {
         check_size(u64::from(ncols), u64::from(nrows))?;
         let size = i128::from(cell.units());
@@ -59,7 +59,7 @@ impl Frame {
     /// size or an edge is past 40,000,000 in size: the first in this order.
     pub fn from_extent_size(extent: &Extent, ncols: u32, nrows: u32) -> Result<Frame, FrameFault>
         ensures answer { result ≡ frame_or_fault_in extent.now (layout_by_size extent.now ncols nrows) }
-        ensures frame { IfOk result (λ f. IsFrame f) }
+        ensures frame { IfOk result IsFrame }
     {
         let (length, depth) = spans(extent)?;
         let (columns, rows) = (u64::from(ncols), u64::from(nrows));
@@ -86,7 +86,7 @@ impl Frame {
         requires width { pos 0 <ℤ xres }
         requires height { pos 0 <ℤ yres }
         ensures answer { result ≡ frame_or_fault_in extent.now (layout_by_cell extent.now xres yres) }
-        ensures frame { IfOk result (λ f. IsFrame f) }
+        ensures frame { IfOk result IsFrame }
     {
         let (across, down) = spans(extent)?;
         let ncols = steps(across, xres.units());
@@ -253,7 +253,7 @@ fn counted_frame(
       width = width;
       height = height;
     }) }
-    ensures frame { IfOk result (λ f. IsFrame f) }
+    ensures frame { IfOk result IsFrame }
 {
     if width <= 0 || height <= 0 {
         return Err(FrameFault::BadCell);

@@ -6,25 +6,25 @@ use Rattle.cell_base.proofs.WalkLemmas.{joined_end, joined_itself, joined_sym, j
 use Rattle.region_label.specs.Component.{HasValue, InComponent}
 
 -- each cell of a component is valid and has its value
-pub component_end : {T : Type 0} (eight : Bool) (cells : Raster T) (valid : Raster Bool) (a b : Place) → InComponent eight cells valid a b → HasValue cells valid (value_at cells a) b
-component_end eight cells valid a b ab = joined_end eight (HasValue cells valid (value_at cells a)) a b ab
+pub component_end : {T : Type 0} (connectivity : Bool) (cells : Raster T) (valid : Raster Bool) (a b : Place) → InComponent connectivity cells valid a b → HasValue cells valid (value_at cells a) b
+component_end connectivity cells valid a b ab = joined_end connectivity (HasValue cells valid (value_at cells a)) a b ab
 
-pub component_itself : {T : Type 0} (eight : Bool) (cells : Raster T) (valid : Raster Bool) (a : Place) → IsMarked valid a → InComponent eight cells valid a a
-component_itself eight cells valid a marked = joined_itself eight (HasValue cells valid (value_at cells a)) a (marked, refl_value)
+pub component_itself : {T : Type 0} (connectivity : Bool) (cells : Raster T) (valid : Raster Bool) (a : Place) → IsMarked valid a → InComponent connectivity cells valid a a
+component_itself connectivity cells valid a marked = joined_itself connectivity (HasValue cells valid (value_at cells a)) a (marked, refl_value)
   where
     refl_value : value_at cells a ≡ value_at cells a
     refl_value = cc
 
 -- a walk between the same cells under another name of their value
-same_value : {T : Type 0} (eight : Bool) (cells : Raster T) (valid : Raster Bool) (v w : Option T) (a b : Place) → v ≡ w → IsJoined eight (HasValue cells valid v) a b → IsJoined eight (HasValue cells valid w) a b
-same_value {T} eight cells valid v w a b same joined = subst (λ (u : Option T). IsJoined eight (HasValue cells valid u) a b) same joined
+same_value : {T : Type 0} (connectivity : Bool) (cells : Raster T) (valid : Raster Bool) (v w : Option T) (a b : Place) → v ≡ w → IsJoined connectivity (HasValue cells valid v) a b → IsJoined connectivity (HasValue cells valid w) a b
+same_value {T} connectivity cells valid v w a b same joined = subst (λ (u : Option T). IsJoined connectivity (HasValue cells valid u) a b) same joined
 
-pub component_sym : {T : Type 0} (eight : Bool) (cells : Raster T) (valid : Raster Bool) (a b : Place) → InComponent eight cells valid a b → InComponent eight cells valid b a
-component_sym eight cells valid a b ab =
-    let same : value_at cells b ≡ value_at cells a = (component_end eight cells valid a b ab).1 in
-    same_value eight cells valid (value_at cells a) (value_at cells b) b a (sym same) (joined_sym eight (HasValue cells valid (value_at cells a)) a b ab)
+pub component_sym : {T : Type 0} (connectivity : Bool) (cells : Raster T) (valid : Raster Bool) (a b : Place) → InComponent connectivity cells valid a b → InComponent connectivity cells valid b a
+component_sym connectivity cells valid a b ab =
+    let same : value_at cells b ≡ value_at cells a = (component_end connectivity cells valid a b ab).1 in
+    same_value connectivity cells valid (value_at cells a) (value_at cells b) b a (sym same) (joined_sym connectivity (HasValue cells valid (value_at cells a)) a b ab)
 
-pub component_trans : {T : Type 0} (eight : Bool) (cells : Raster T) (valid : Raster Bool) (a b c : Place) → InComponent eight cells valid a b → InComponent eight cells valid b c → InComponent eight cells valid a c
-component_trans eight cells valid a b c ab bc =
-    let same : value_at cells b ≡ value_at cells a = (component_end eight cells valid a b ab).1 in
-    joined_trans eight (HasValue cells valid (value_at cells a)) a b c ab (same_value eight cells valid (value_at cells b) (value_at cells a) b c same bc)
+pub component_trans : {T : Type 0} (connectivity : Bool) (cells : Raster T) (valid : Raster Bool) (a b c : Place) → InComponent connectivity cells valid a b → InComponent connectivity cells valid b c → InComponent connectivity cells valid a c
+component_trans connectivity cells valid a b c ab bc =
+    let same : value_at cells b ≡ value_at cells a = (component_end connectivity cells valid a b ab).1 in
+    joined_trans connectivity (HasValue cells valid (value_at cells a)) a b c ab (same_value connectivity cells valid (value_at cells b) (value_at cells a) b c same bc)

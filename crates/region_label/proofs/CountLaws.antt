@@ -2,13 +2,10 @@
 use Rattle.std.proofs.Common.{◌≡◌, ◌≢◌, ℕ, suc, ◌+◌, ◌-◌, ◌<◌, ◌≤◌, inl, inr, List, [], ◌∷◌, length, get_or, sym, ap, ◌∙◌, arith}
 use Rattle.std.specs.Prelude.{AllPairs, Contains, remove}
 use Rattle.std.proofs.lemmas.Bool.{cases_eq, cases_lt}
-use Rattle.std.proofs.lemmas.Grind.{common_steps}
+use Rattle.std.proofs.lemmas.List.{get_or_default}
 use Rattle.std.proofs.lemmas.List.Edits.{get_or-remove_above, get_or-remove_below, length-remove}
-use Rattle.cell_base.proofs.TestLemmas.{contains_here, contains_there}
+use Rattle.cell_base.proofs.ListDeciders.{contains_here, contains_there}
 use Rattle.region_label.specs.Count.{HasCount}
-
-any_default : {A : Type 0} (xs : List A) (k : ℕ) (c d : A) → k < length xs → get_or xs k c ≡ get_or xs k d
-any_default xs k c d within = grind (arith, common_steps)
 
 kept_member : {A : Type 0} (ys : List A) (k : ℕ) (x z : A) → k < length ys → get_or ys k x ≡ x → x ≢ z → Contains ys z → Contains (remove ys k) z
 kept_member ys k x z within at_k other member =
@@ -16,7 +13,7 @@ kept_member ys k x z within at_k other member =
     elim (cases_lt member.0 k) [
       | inl before ↦ (member.0, omega (arith, shorter), get_or-remove_below ys k z member.0 before within ∙ member.2)
       | inr past ↦ elim (cases_eq member.0 k) [
-        | inl same ↦ absurd (other (sym at_k ∙ any_default ys k x z within ∙ ap (λ (j : ℕ). get_or ys j z) (sym same) ∙ member.2))
+        | inl same ↦ absurd (other (sym at_k ∙ get_or_default ys k x z within ∙ ap (λ (j : ℕ). get_or ys j z) (sym same) ∙ member.2))
         | inr after ↦
             let next : member.0 - 1 + 1 ≡ member.0 = omega arith in
             (member.0 - 1, omega (arith, shorter, member.1), get_or-remove_above ys k z (member.0 - 1) (omega arith) within ∙ ap (λ (j : ℕ). get_or ys j z) next ∙ member.2)

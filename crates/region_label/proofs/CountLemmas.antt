@@ -1,7 +1,7 @@
-use Rattle.std.proofs.Common.{◌≡◌, ◌≢◌, ℕ, ◌+◌, ◌*◌, ◌<◌, ◌⊎◌, ◌↔◌, inl, inr, List, [], ◌∷◌, ◌++◌, Some, None, length, length-append, get_or, set, replicate, refl, ap, sym, ◌∙◌, subst, arith}
+use Rattle.std.proofs.Common.{◌≡◌, ◌≢◌, ℕ, ◌+◌, ◌*◌, ◌<◌, ◌⊎◌, ◌↔◌, inl, inr, List, [], ◌∷◌, ◌++◌, Some, None, length-append, get_or, set, replicate, refl, ap, sym, ◌∙◌, subst, arith}
 use Rattle.std.specs.Prelude.{slice_get}
 use Rattle.std.proofs.lemmas.Bool.{cases_eq}
-use Rattle.std.proofs.lemmas.List.{length-replicate, get_or-replicate}
+use Rattle.std.proofs.lemmas.List.{get_or_default, length-replicate, get_or-replicate}
 use Rattle.std.proofs.lemmas.List.Elements.{Contains-append_left, Contains-push, Contains-push_cases}
 use Rattle.std.proofs.lemmas.List.Quantifiers.{all_pairs_push}
 use Rattle.std.proofs.lemmas.Option.{slice_get_within, get_or_from_slice_get, gets}
@@ -10,8 +10,8 @@ use Rattle.std.proofs.lemmas.Grind.{common_steps}
 use Rattle.cell_base.specs.Raster.{Place, IsRaster, value_at}
 use Rattle.cell_base.proofs.PlaceLemmas.{inside_from_value}
 use Rattle.region_label.specs.Count.{HasCount}
-use Rattle.region_label.specs.Fill.{Numbers}
-use Rattle.region_label.specs.Sizes.{IsCounted, AreCounted}
+use Rattle.region_label.specs.Inner.Fill.{Numbers}
+use Rattle.region_label.specs.Inner.Sizes.{IsCounted, AreCounted}
 use Rattle.cell_base.proofs.OrderLemmas.{none_before, before_next, before_more, before_not_itself, at_row_end, in_next_row}
 
 -- sets with the same members have the same count
@@ -35,9 +35,6 @@ count_none P none = (
   refl,
 )
 
-get_or_any : {A : Type 0} (xs : List A) (k : ℕ) (d : A) → k < length xs → get_or xs k (get_or xs k d) ≡ get_or xs k d
-get_or_any xs k d within = grind (arith, common_steps)
-
 -- one member more
 pub count_more : (P Q : Place → Type 0) (n : ℕ) (y : Place) → HasCount P n → ¬ P y → Q y → ((x : Place) → P x → Q x) → ((x : Place) → Q x → P x ⊎ (x ≡ y)) → HasCount Q (n + 1)
 count_more P Q n y count new is old only = (
@@ -54,7 +51,7 @@ count_more P Q n y count new is old only = (
       ],
     );
     once = all_pairs_push (λ x z. x ≢ z) count.0 y count.1.once (λ k d within same.
-        new (subst P same ((count.1.all (get_or count.0 k d)).0 (k, within, get_or_any count.0 k d within))));
+        new (subst P same ((count.1.all (get_or count.0 k d)).0 (k, within, get_or_default count.0 k _ d within))));
   },
   omega (arith, length-append count.0 (y ∷ []), count.2),
 )
@@ -118,8 +115,8 @@ counted_one numbers row col k n sizes counted is at = record {
 
 -- at the end of a row
 pub counted_row : (numbers : Numbers) (row : ℕ) (sizes : List ℕ) → IsRaster numbers → AreCounted numbers (row, numbers.ncols) sizes → AreCounted numbers (row + 1, 0) sizes
-counted_row numbers row sizes whole counted = record {
-  counts = λ k n at. count_same (IsCounted numbers k (row, numbers.ncols)) (IsCounted numbers k (row + 1, 0)) n (λ p. (λ was. (was.0, in_next_row p row numbers.ncols was.1), λ now. (now.0, at_row_end p row numbers.ncols (inside_from_value numbers p (Some k) whole now.0).1 now.1))) (counted.counts k n at);
+counted_row numbers row sizes shape counted = record {
+  counts = λ k n at. count_same (IsCounted numbers k (row, numbers.ncols)) (IsCounted numbers k (row + 1, 0)) n (λ p. (λ was. (was.0, in_next_row p row numbers.ncols was.1), λ now. (now.0, at_row_end p row numbers.ncols (inside_from_value numbers p (Some k) shape now.0).1 now.1))) (counted.counts k n at);
   small = λ k n at. omega (arith, counted.small k n at);
 }
 

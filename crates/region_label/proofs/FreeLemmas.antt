@@ -2,7 +2,7 @@ use Rattle.std.proofs.Common.{◌≡◌, ℕ, zero, suc, ◌+◌, ◌*◌, ◌<�
 use Rattle.std.proofs.lemmas.Bool.{cases_eq, false≢true}
 use Rattle.cell_base.specs.Raster.{Place, IsInside, SetsPlace, value_at}
 use Rattle.cell_base.proofs.OrderLemmas.{same_or_other}
-use Rattle.region_label.specs.Fill.{Numbers, is_free_value, free_in_row, free_in_rows, free_count}
+use Rattle.region_label.specs.Inner.Fill.{Numbers, is_free_value, free_in_row, free_in_rows, free_count}
 
 -- whatever has no number now had none before
 abbrev pub FreesNone : Numbers → Numbers → Type 0

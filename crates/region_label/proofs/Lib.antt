@@ -5,6 +5,7 @@ pub mod ComponentLemmas
 pub mod ScanLemmas
 pub mod CountLemmas
 pub mod EndLemmas
-pub mod ComponentRows
+pub mod ComponentExamples
 pub mod LabellingLemmas
 pub mod CountLaws
+pub mod RegionDeciders

@@ -1,5 +1,4 @@
 pub mod Count
 pub mod Component
 pub mod Labelling
-pub mod Fill
-pub mod Sizes
+pub mod Inner

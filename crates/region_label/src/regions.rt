@@ -1,6 +1,6 @@
-// The components of a grid.
-ghost use Rattle.std.specs.Prelude.{◌≡◌, ◌<◌, ◌≤◌, Some, length, slice_get};
-ghost use Rattle.cell_base.specs.Raster.{most_cells, value_at};
+ghost use Rattle.std.specs.Prelude.{◌≡◌, ◌<◌, Some, length, slice_get};
+ghost use Rattle.cell_base.specs.Raster.{IsRaster, value_at};
+ghost use Rattle.region_label.specs.Inner.Tables.{AreListed};
 
 use cell_base::Grid;
 use std::marker::Model;
@@ -14,26 +14,25 @@ pub struct Regions {
 }
 
 impl Model for Regions {
-    ghost use Rattle.std.specs.Prelude.{◌≡◌, ◌≤◌, length};
-    ghost use Rattle.cell_base.specs.Raster.{most_cells};
+    ghost use Rattle.region_label.specs.Inner.Tables.{AreListed};
     ghost use Rattle.region_label.specs.Labelling.{RegionTable};
 
     ghost Value = { RegionTable };
 
-    ghost view = { λ regions. record { numbers = regions.numbers; firsts = regions.firsts.items; sizes = regions.sizes.items } };
+    ghost view = { λ regions.
+        record { numbers = regions.numbers; firsts = regions.firsts.items; sizes = regions.sizes.items } };
 
-    ghost invariant = { λ regions. (length regions.firsts.items ≤ most_cells) × (length regions.sizes.items ≡ length regions.firsts.items) };
+    ghost invariant = { λ regions. AreListed regions.firsts.items regions.sizes.items };
 }
 
 impl Regions {
-    /// The components with these numbers, first cells and sizes.
+    // The components with these numbers, first cells and sizes.
     pub(crate) fn of(
         numbers: Grid<Option<u32>>,
         firsts: Vec<(u32, u32)>,
         sizes: Vec<u32>,
     ) -> Regions
-        requires few { length firsts.items ≤ most_cells }
-        requires sized { length sizes.items ≡ length firsts.items }
+        requires { AreListed firsts.items sizes.items }
         ensures { result ≡ record { numbers = numbers; firsts = firsts.items; sizes = sizes.items } }
     {
         Regions {
@@ -45,14 +44,16 @@ impl Regions {
 
     /// The number of columns of the grid.
     pub fn ncols(&self) -> u32
-        ensures { result ≡ self.now.numbers.ncols }
+        ensures value { result ≡ self.now.numbers.ncols }
+        ensures shape { IsRaster self.now.numbers }
     {
         self.numbers.ncols()
     }
 
     /// The number of rows of the grid.
     pub fn nrows(&self) -> u32
-        ensures { result ≡ self.now.numbers.nrows }
+        ensures value { result ≡ self.now.numbers.nrows }
+        ensures shape { IsRaster self.now.numbers }
     {
         self.numbers.nrows()
     }

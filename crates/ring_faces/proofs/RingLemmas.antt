@@ -1,12 +1,13 @@
 -- The edges of a ring lead round.
 use Rattle.std.proofs.Common.{◌≡◌, ◌≢◌, ℕ, zero, suc, ◌+◌, inl, inr, List, [], ◌∷◌, ◌++◌, refl, sym, ap, arith}
 use Rattle.std.specs.Prelude.{All}
+use Rattle.std.specs.Int.{abs_diff}
 use Rattle.std.specs.List.{zip, flat_map}
 use Rattle.std.proofs.lemmas.Bool.Decides.{nat_tests}
 use Rattle.std.proofs.lemmas.List.Elements.{All-nil, All-cons, All-head, All-tail}
 use Rattle.cell_base.specs.Steps.{AreNext}
 use Rattle.edge_trace.specs.Edge.{Corner, Edge, IsUnitEdge}
-use Rattle.ring_faces.specs.Ring.{cut, distance, edges_of, edges_towards, nearer, IsRing}
+use Rattle.ring_faces.specs.Ring.{cut, edges_of, edges_towards, nearer, IsRing}
 
 -- the edges lead from one corner to another, each a unit edge that begins where the one before ends
 abbrev pub Leads : Corner → List Edge → Corner → Type 0
@@ -17,22 +18,22 @@ pub leads-append : (a b c : Corner) (es fs : List Edge) → Leads a es b → Lea
 leads-append a b c [] fs first second = rw first second
 leads-append a b c (e ∷ es) fs first second = (first.0, first.1, leads-append e.1 b c es fs first.2 second)
 
-far_none : (m n : ℕ) → distance m n ≡ 0 → m ≡ n
+far_none : (m n : ℕ) → abs_diff m n ≡ 0 → m ≡ n
 far_none m n none = omega (arith, none)
 
 -- where a number changes on the way, it is one nearer
-nearer_less : (m n : ℕ) → nearer m n ≢ m → distance m n ≡ distance (nearer m n) n + 1
+nearer_less : (m n : ℕ) → nearer m n ≢ m → abs_diff m n ≡ abs_diff (nearer m n) n + 1
 nearer_less m n moves = grind (arith, nat_tests)
 
-nearer_same : (m n : ℕ) → nearer m n ≡ m → distance (nearer m n) n ≡ distance m n
-nearer_same m n stays = ap (λ k. distance k n) stays
+nearer_same : (m n : ℕ) → nearer m n ≡ m → abs_diff (nearer m n) n ≡ abs_diff m n
+nearer_same m n stays = ap (λ k. abs_diff k n) stays
 
 next_differs : (m n : ℕ) → AreNext m n → n ≢ m
 next_differs m n (inl up) = omega arith
 next_differs m n (inr down) = omega arith
 
 -- a unit edge towards a corner brings one nearer
-unit_nearer : (a b : Corner) (n : ℕ) → distance a.0 b.0 + distance a.1 b.1 ≡ suc n → IsUnitEdge (a, (nearer a.0 b.0, nearer a.1 b.1)) → distance (nearer a.0 b.0) b.0 + distance (nearer a.1 b.1) b.1 ≡ n
+unit_nearer : (a b : Corner) (n : ℕ) → abs_diff a.0 b.0 + abs_diff a.1 b.1 ≡ suc n → IsUnitEdge (a, (nearer a.0 b.0, nearer a.1 b.1)) → abs_diff (nearer a.0 b.0) b.0 + abs_diff (nearer a.1 b.1) b.1 ≡ n
 unit_nearer a b n far (inl (row, next)) =
     let same = nearer_same a.0 b.0 (sym row) in
     let less = nearer_less a.1 b.1 (next_differs a.1 (nearer a.1 b.1) next) in
@@ -42,7 +43,7 @@ unit_nearer a b n far (inr (col, next)) =
     let less = nearer_less a.0 b.0 (next_differs a.0 (nearer a.0 b.0) next) in
     omega (arith, far, same, less)
 
-towards_leads : (n : ℕ) (a b : Corner) → distance a.0 b.0 + distance a.1 b.1 ≡ n → All IsUnitEdge (edges_towards n a b) → Leads a (edges_towards n a b) b
+towards_leads : (n : ℕ) (a b : Corner) → abs_diff a.0 b.0 + abs_diff a.1 b.1 ≡ n → All IsUnitEdge (edges_towards n a b) → Leads a (edges_towards n a b) b
 towards_leads zero a b far units =
     let rows : a.0 ≡ b.0 = far_none a.0 b.0 (omega (arith, far)) in
     let cols : a.1 ≡ b.1 = far_none a.1 b.1 (omega (arith, far)) in
@@ -53,7 +54,7 @@ towards_leads (suc n) a b far units =
     (refl, unit, towards_leads n (nearer a.0 b.0, nearer a.1 b.1) b (unit_nearer a b n far unit) (All-tail IsUnitEdge _ _ units))
 
 cut_leads : (a b : Corner) → All IsUnitEdge (cut (a, b)) → Leads a (cut (a, b)) b
-cut_leads a b units = towards_leads (distance a.0 b.0 + distance a.1 b.1) a b refl units
+cut_leads a b units = towards_leads (abs_diff a.0 b.0 + abs_diff a.1 b.1) a b refl units
 
 all_front : {A : Type 0} (P : A → Type 0) (xs ys : List A) → All P (xs ++ ys) → All P xs
 all_front P [] ys all = All-nil P

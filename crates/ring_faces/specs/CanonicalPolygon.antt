@@ -1,6 +1,7 @@
 -- The one polygon of a set of cells, as a list of corners. The orientation, the starts and the order are this project's own.
-use Rattle.std.specs.Prelude.{◌≡◌, ◌≢◌, ℕ, ◌↔◌, ◌⊎◌, Bool, false, [], ◌∷◌, Some, All, AllPairs, Contains, slice_get}
+use Rattle.std.specs.Prelude.{◌≡◌, ◌≢◌, ℕ, ◌↔◌, ◌⊎◌, Bool, [], ◌∷◌, Some, All, AllPairs, Contains, slice_get}
 use Rattle.cell_base.specs.Raster.{Place, Raster}
+use Rattle.cell_base.specs.Steps.{four}
 use Rattle.cell_base.specs.Order.{IsBefore}
 use Rattle.region_label.specs.Component.{InComponent, IsFirst}
 use Rattle.region_label.specs.Labelling.{RegionTable, IsInRegion}
@@ -54,4 +55,5 @@ IsPolygonOf regions k polygon = IsOnly (IsCanonicalPolygon (IsInRegion regions k
 
 -- one canonical polygon: each component under side steps has exactly one
 abbrev pub HasOneCanonicalPolygon : {T : Type 0} → Raster T → Raster Bool → Type 0
-HasOneCanonicalPolygon cells valid = (a : Place) → IsFirst false cells valid a → (polygon : Polygon) × IsOnly (IsCanonicalPolygon (InComponent false cells valid a)) polygon
+HasOneCanonicalPolygon cells valid = (a : Place) → IsFirst four cells valid a
+    → (polygon : Polygon) × IsOnly (IsCanonicalPolygon (InComponent four cells valid a)) polygon

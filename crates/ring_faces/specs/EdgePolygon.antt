@@ -11,7 +11,8 @@ use Rattle.ring_faces.specs.LatticePolygon.{Polygon, rings_of}
 abbrev pub all_edges : Polygon → List Edge
 all_edges polygon = flat_map edges_of (rings_of polygon)
 
--- an edge polygon of a set: closed walks of at least four unit edges that together hold each boundary edge of the set once, in its direction, and no other edge
+-- an edge polygon of a set: closed walks of at least four unit edges that together hold each boundary edge of the set
+-- once, in its direction, and no other edge
 pub record IsEdgePolygon (set : Place → Type 0) (polygon : Polygon) : Type 0 where
   pub closed : All IsRing (rings_of polygon)
   pub edges : IsListOf (IsBoundaryEdge set) (all_edges polygon)

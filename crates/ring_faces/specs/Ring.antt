@@ -1,5 +1,6 @@
 -- Rings over the corners of cells, with no turning rule: a ring is a closed walk.
 use Rattle.std.specs.Prelude.{ℕ, zero, suc, ◌+◌, ◌-◌, ◌≤◌, ◌≢◌, ◌⊎◌, nat_lt, List, [], ◌∷◌, ◌++◌, length, take, drop, map, All, AllPairs, Contains, if◌then◌else◌}
+use Rattle.std.specs.Int.{abs_diff}
 use Rattle.std.specs.List.{zip, flat_map}
 use Rattle.cell_base.specs.Raster.{Place}
 use Rattle.edge_trace.specs.Edge.{Corner, Edge, IsUnitEdge, turned}
@@ -17,10 +18,6 @@ pairs_round xs = zip xs (drop 1 xs ++ take 1 xs)
 abbrev pub nearer : ℕ → ℕ → ℕ
 nearer m n = if nat_lt m n then m + 1 else (if nat_lt n m then m - 1 else m)
 
--- how far two numbers are apart
-abbrev pub distance : ℕ → ℕ → ℕ
-distance m n = (m - n) + (n - m)
-
 -- so many edges from one corner towards another, each to the corner that is one nearer
 abbrev pub edges_towards : ℕ → Corner → Corner → List Edge
 edges_towards zero a b = []
@@ -28,7 +25,7 @@ edges_towards (suc n) a b = (a, (nearer a.0 b.0, nearer a.1 b.1)) ∷ edges_towa
 
 -- a side of a ring, cut into unit edges
 abbrev pub cut : Edge → List Edge
-cut (a, b) = edges_towards (distance a.0 b.0 + distance a.1 b.1) a b
+cut (a, b) = edges_towards (abs_diff a.0 b.0 + abs_diff a.1 b.1) a b
 
 -- the edges of a ring: those between its successive corners, from the last to the first included, long ones cut into units
 abbrev pub edges_of : Ring → List Edge

@@ -1,4 +1,5 @@
 pub mod Causes
+pub mod FileMap
 pub mod Files
 pub mod Folder
 pub mod MemoryFolder

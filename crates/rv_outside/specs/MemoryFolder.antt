@@ -3,7 +3,7 @@ use Rattle.std.specs.Prelude.{◌≡◌, ◌≢◌, ◌↔◌, ℕ, List, Some, 
 use Rattle.rv_outside.specs.Causes.{Rose}
 use Rattle.rv_outside.specs.Files.{Files}
 use Rattle.rv_outside.specs.Folder.{FolderState}
-use Rattle.rv_outside.specs.Inner.FileMap.{files_in}
+use Rattle.rv_outside.specs.FileMap.{files_in}
 use Rattle.rv_outside.specs.declared.memory_folder.Call.{Call}
 use Rattle.rv_outside.specs.declared.memory_folder.Call.TheVariants.{Read, Create, Append}
 use Rattle.rv_outside.specs.declared.memory_folder.MemoryFolder.{MemoryFolder}

@@ -3,7 +3,9 @@ ghost use Rattle.std.specs.Prelude.{◌≡◌, ◌↔◌, ◌≤◌, None, IfOk,
 ghost use Rattle.std.specs.String.{string_bytes};
 
 use crate::causes::raise;
-use crate::host::{Refusal, create_answer, move_to, read_answer, read_once, refusal_of, write_answer, write_once};
+use crate::host::{
+    Refusal, create_answer, move_to, read_answer, read_once, refusal_of, write_answer, write_once,
+};
 use crate::{Folder, Taken, Trouble};
 use std::alloc::Global;
 use std::fs::{File, OpenOptions};
@@ -137,10 +139,10 @@ impl<R: Files> HostFolder<R> {
 
 impl<R: Files> Folder for HostFolder<R> {
     ghost state = { λ s. record {
-        files = None;
-        read_faults = s.read_faults;
-        write_faults = s.write_faults;
-        missing = s.missing;
+      files = None;
+      read_faults = s.read_faults;
+      write_faults = s.write_faults;
+      missing = s.missing;
     } };
 
     fn read_at(&mut self, name: &str, offset: u64, into: &mut [u8]) -> Result<Taken, Trouble> {

@@ -2,7 +2,7 @@
 ghost use Rattle.std.specs.Prelude.{◌≡◌, ◌∷◌, ◌++◌, [], ◌≤◌, ◌<◌, ◌↔◌, ◌+◌, Some, None, Contains, IfNone, IfSome, IsErrOf, IsSome, IsTrue, OnErr, OnOk, drop, length, take};
 ghost use Rattle.rv_outside.specs.Files.{with_file, with_appended};
 ghost use Rattle.rv_outside.specs.Folder.{ReadsAt, Creates, AppendsTo};
-ghost use Rattle.rv_outside.specs.Inner.FileMap.{files_in};
+ghost use Rattle.rv_outside.specs.FileMap.{files_in};
 
 use crate::causes::raise;
 use crate::{Folder, Taken, Trouble};

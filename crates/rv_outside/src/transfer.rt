@@ -51,7 +51,7 @@ pub fn read_whole<F: Folder>(
 {
     let mut block = empty_block(alloc)?;
     let mut all = Vec::new(alloc);
-    loop {
+    'reading: loop {
         match folder.read_at(name, all.len() as u64, &mut block) {
             Ok(Taken::Bytes(count)) => all.extend_from_slice(&block[..count])?,
             Ok(Taken::End) => return Ok(all),

@@ -1,5 +1,6 @@
 pub mod SieveLemmas
-pub mod SieveTests
-pub mod ValueTests
+pub mod NeighbourDeciders
+pub mod SieveDeciders
 pub mod TargetLemmas
-pub mod SieveRows
+pub mod SieveExamples
+pub mod KeepsLemmas

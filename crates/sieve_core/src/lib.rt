@@ -3,4 +3,4 @@
 
 mod laws;
 
-pub use laws::chain_has_one_end;
+pub use laws::{chain_has_one_end, threshold_one_keeps_all};

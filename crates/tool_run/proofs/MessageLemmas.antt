@@ -32,11 +32,14 @@ says_second first second trouble old mid new one two = record {
 
 -- an empty line is handed over by doing nothing
 pub says_nothing : (state : SinkState) → SaysLine [] state state
-says_nothing state = (Ok tt, record {
-  said = adds_nothing state.written;
-  part = tt;
-  leaves = record {
-    faults = record { rose = λ no. absurd (cc no); stood = λ _. refl; later = omega arith };
-    wants = record { rose = λ no. absurd (cc no); stood = λ _. refl; later = omega arith };
-  };
-})
+says_nothing state = (
+  Ok tt,
+  record {
+    said = adds_nothing state.written;
+    part = tt;
+    leaves = record {
+      faults = record { rose = λ no. absurd (cc no); stood = λ _. refl; later = omega arith };
+      wants = record { rose = λ no. absurd (cc no); stood = λ _. refl; later = omega arith };
+    };
+  },
+)

@@ -63,4 +63,4 @@ Meets expected status now = (status ≡ expected.status) × (now ≡ Some expect
 abbrev pub LeavesPart : Outcome → Text → Files → Option Files → Type 0
 LeavesPart expected dest files now =
     (now ≡ Some files) ⊎ ((bytes : List ℕ) × (n : ℕ) × IsDone expected × (expected.files dest ≡ Some bytes)
-        × (now ≡ Some (with_file dest (take n bytes) files)))
+    × (now ≡ Some (with_file dest (take n bytes) files)))

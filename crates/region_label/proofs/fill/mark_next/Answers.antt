@@ -13,4 +13,4 @@ returns-clause-spreads g c =
     spreads_next _ (HasValue c.args.cells.now c.args.valid.now (Some c.args.value)) (IsInside c.args.cells.now) c.args.k c.args.number _ _ _ _ c.args.at c.in-Some.next c.requires.k c.in-Some.ensures.step inside c.in_ok-mark.ensures.spreads
 
 pub returns-clause-marked : goal.returns-clause-marked
-returns-clause-marked g c = λ p is inside has. numbered_next (HasValue c.args.cells.now c.args.valid.now (Some c.args.value)) c.args.k c.mark.new.numbers c.args.at c.in-Some.next c.in-Some.ensures.step c.in_ok-mark.ensures.marked p is has
+returns-clause-marked g c = λ p is inside has. numbered_next (HasValue c.args.cells.now c.args.valid.now (Some c.args.value)) c.args.k c.mark.new.filling.numbers c.args.at c.in-Some.next c.in-Some.ensures.step c.in_ok-mark.ensures.marked p is has

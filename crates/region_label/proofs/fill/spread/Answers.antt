@@ -13,10 +13,10 @@ loop-k-preserved g c =
     record {
       spreads = spreads_then _ _ _ _ _ _ _ _ c.loop-k.invariant.spreads step.spreads;
       aligned = aligned_after _ _ _ _ c.loop-k.invariant.aligned step.spreads.cols step.spreads.rows;
-      so_far = numbered_more (HasValue c.args.cells.now c.args.valid.now (Some c.args.value)) (IsInside c.args.cells.now) c.loop-k.numbers c.mark_next.new.numbers c.args.at c.loop-k.k step.spreads.kept c.loop-k.invariant.so_far step.marked;
+      so_far = numbered_more (HasValue c.args.cells.now c.args.valid.now (Some c.args.value)) (IsInside c.args.cells.now) c.loop-k.filling.numbers c.mark_next.new.filling.numbers c.args.at c.loop-k.k step.spreads.kept c.loop-k.invariant.so_far step.marked;
     }
 
 pub returns-clause-marked : goal.returns-clause-marked
 returns-clause-marked g c =
     let end : c.loop-k.k ≡ step_count (not (nat_eq (value_of (number g.row.EIGHT)) 0)) = omega (arith, c.count-k-end.ensures) in
-    numbered_all _ (HasValue c.args.cells.now c.args.valid.now (Some c.args.value)) (IsInside c.args.cells.now) c.loop-k.numbers c.args.at (rw end at c.loop-k.invariant.so_far)
+    numbered_all _ (HasValue c.args.cells.now c.args.valid.now (Some c.args.value)) (IsInside c.args.cells.now) c.loop-k.filling.numbers c.args.at (rw end at c.loop-k.invariant.so_far)

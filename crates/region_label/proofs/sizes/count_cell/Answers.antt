@@ -16,7 +16,7 @@ pub overflow_add-index_mut : goal.overflow_add-index_mut
 overflow_add-index_mut c =
     let within = c.requires.known (c.args.row, c.args.col) c.in-Some.k c.in-Some.ensures in
     let at : slice_get c.args.sizes.now.items c.in-Some.k ≡ Some c.index_mut.result.now = slice_get-get_or c.args.sizes.now.items c.in-Some.k c.index_mut.result.now within ∙ ap (λ n. Some n) (sym c.index_mut.ensures.value) in
-    omega (arith, c.requires.counted.small c.in-Some.k c.index_mut.result.now at, place_small c.args.row c.args.col c.args.numbers.now.ncols c.args.numbers.now.nrows c.requires.row c.requires.col, c.requires.whole.small)
+    omega (arith, c.requires.counted.small c.in-Some.k c.index_mut.result.now at, place_small c.args.row c.args.col c.args.numbers.now.ncols c.args.numbers.now.nrows c.requires.row c.requires.col, c.requires.shape.small)
 
 pub returns-clause-counted : goal.returns-clause-counted
 returns-clause-counted c =

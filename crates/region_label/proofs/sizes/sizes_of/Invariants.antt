@@ -1,5 +1,5 @@
 use Rattle.std.proofs.Common.{◌≡◌, length}
-use Rattle.region_label.specs.Sizes.{AreCounted}
+use Rattle.region_label.specs.Inner.Sizes.{AreCounted}
 use Rattle.region_label.proofs.sizes.sizes_of.Given as goal
 
 abbrev pub invariant-rows : goal.invariant-rows

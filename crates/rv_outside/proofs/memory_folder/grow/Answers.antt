@@ -1,6 +1,6 @@
 use Rattle.std.proofs.Common.{arith, ◌≡◌}
 use Rattle.std.proofs.lemmas.Map.Text.{text_keys}
-use Rattle.rv_outside.specs.Inner.FileMap.{files_in}
+use Rattle.rv_outside.specs.FileMap.{files_in}
 use Rattle.rv_outside.proofs.FilesLemmas.{same_files}
 use Rattle.rv_outside.proofs.memory_folder.grow.Goals as goal
 

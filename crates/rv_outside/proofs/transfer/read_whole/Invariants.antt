@@ -3,8 +3,8 @@ use Rattle.rv_outside.proofs.FetchLemmas.{IsFront}
 use Rattle.rv_outside.proofs.transfer.read_whole.Given as goal
 
 -- what was read so far is the front of the file
-abbrev pub invariant-loop-count : goal.invariant-loop-count
-invariant-loop-count g l =
+abbrev pub invariant-reading : goal.invariant-reading
+invariant-reading g l =
     let state = g.F.Folder.state in
     record {
       some : 0 < length l.block.items;
@@ -16,5 +16,5 @@ invariant-loop-count g l =
     }
 
 -- each turn adds a byte
-abbrev pub decreases-loop-count : goal.decreases-loop-count
-decreases-loop-count g l = 2 ^ 64 - length l.all.items
+abbrev pub decreases-reading : goal.decreases-reading
+decreases-reading g l = 2 ^ 64 - length l.all.items

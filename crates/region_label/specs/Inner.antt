@@ -1,0 +1,4 @@
+pub mod Tables
+pub mod Fill
+pub mod Scan
+pub mod Sizes

@@ -1,0 +1,17 @@
+//! Worked examples: numbers, cells and frames, components, and runs of the whole program over words and files in
+//! memory, with what each must give. No clause rules out that a call runs out of memory, so each example
+//! also shows that it doesn't where memory is ample.
+#![tactic(auto)]
+
+#[cfg(test)]
+mod cells;
+#[cfg(test)]
+mod frames;
+#[cfg(test)]
+mod numbers;
+#[cfg(test)]
+mod outside;
+#[cfg(test)]
+mod regions;
+#[cfg(test)]
+mod runs;

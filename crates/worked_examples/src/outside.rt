@@ -1,0 +1,185 @@
+// The edges that tell nothing of what they hold: real files and a writer, compared by the system's own calls.
+use asc_grid::{read_plain, write_plain};
+use rv_outside::{
+    FetchFault, Folder, HostFolder, MemorySink, StdSink, Taken, append_all, read_whole, say,
+};
+use std::alloc::{AllocError, Global};
+use std::fs;
+use std::test::Fail;
+use tool_run::{Status, Words, run};
+
+#[test]
+fn a_real_file_holds_what_was_appended_and_nothing_else(rt: HostRuntime) -> Result<(), Fail> {
+    let alloc = rt.alloc();
+    let mut folder = HostFolder::new(&rt, alloc);
+    assert!(rt;
+        matches!(
+            read_whole(alloc, &mut folder, "a.txt"),
+            Err(FetchFault::Missing)
+        )
+    );
+    for text in [b"first\n".as_slice(), b"second line\n".as_slice()] {
+        assert!(rt; folder.create("a.txt").is_ok());
+        assert!(rt; append_all(&mut folder, "a.txt", text).is_ok());
+        assert!(rt; append_all(&mut folder, "a.txt", b"more\n").is_ok());
+        let mut whole = Vec::from_slice(alloc, text)?;
+        whole.extend_from_slice(b"more\n")?;
+        assert!(rt; fs::read(&rt, "a.txt")?.as_slice() == whole.as_slice());
+        let read = read_whole(alloc, &mut folder, "a.txt");
+        assert!(rt; matches!(&read, Ok(bytes) if bytes.as_slice() == whole.as_slice()));
+    }
+    assert!(rt; matches!(read_whole(alloc, &mut folder, "."), Err(FetchFault::Fault)));
+    assert!(rt; folder.create("nosuch/b.txt").is_err());
+    Ok(())
+}
+
+#[test]
+fn a_real_file_is_read_from_any_offset(rt: HostRuntime) -> Result<(), Fail> {
+    let alloc = rt.alloc();
+    fs::write(&rt, "a.txt", "0123456789")?;
+    fs::write(&rt, "b.txt", "abcdefghij")?;
+    let mut folder = HostFolder::new(&rt, alloc);
+    let examples: [(&str, u64, &[u8]); 6] = [
+        ("a.txt", 0, b"0123"),
+        ("a.txt", 4, b"4567"),
+        ("a.txt", 1, b"1234"),
+        ("b.txt", 5, b"fghi"),
+        ("a.txt", 5, b"5678"),
+        ("b.txt", 6, b"ghij"),
+    ];
+    for (name, offset, bytes) in examples {
+        let mut block = [0u8; 4];
+        assert!(rt;
+            matches!(
+                folder.read_at(name, offset, &mut block),
+                Ok(Taken::Bytes(4))
+            )
+        );
+        assert!(rt; block.as_slice() == bytes);
+    }
+    let mut block = [0u8; 4];
+    assert!(rt; matches!(folder.read_at("a.txt", 10, &mut block), Ok(Taken::End)));
+    assert!(rt; folder.append("a.txt", b"xy").is_ok());
+    assert!(rt; fs::read(&rt, "a.txt")?.as_slice() == b"0123456789xy".as_slice());
+    Ok(())
+}
+
+#[test]
+fn a_writer_is_handed_the_whole_text(rt: HostRuntime) -> Result<(), Fail> {
+    let alloc = rt.alloc();
+    let mut written = Vec::new(alloc);
+    let mut sink = StdSink::new(&mut written);
+    assert!(rt; say(&mut sink, b"a line\n").is_ok());
+    assert!(rt; say(&mut sink, b"").is_ok());
+    drop(sink);
+    assert!(rt; written.as_slice() == b"a line\n".as_slice());
+    Ok(())
+}
+
+// A grid of more than one block and of more than one piece, in another spelling and in the canonical one.
+// The cells are spelled here digit by digit, so that no expected byte comes from the program.
+const SIDE: u32 = 600;
+
+fn push_cell(value: u32, padded: bool, text: &mut Vec<u8>) -> Result<(), AllocError> {
+    let digits = [
+        value / 10_000 % 10,
+        value / 1_000 % 10,
+        value / 100 % 10,
+        value / 10 % 10,
+        value % 10,
+    ];
+    let mut spelled = padded;
+    for digit in digits {
+        spelled = spelled || digit != 0;
+        if spelled {
+            text.push(b'0' + digit as u8)?;
+        }
+    }
+    if !spelled {
+        text.push(b'0')?;
+    }
+    Ok(())
+}
+
+fn large_grid(
+    alloc: Global,
+    header: &[u8],
+    padded: bool,
+    line_end: &[u8],
+) -> Result<Vec<u8>, AllocError> {
+    let mut text = Vec::from_slice(alloc, header)?;
+    for row in 0..SIDE {
+        for col in 0..SIDE {
+            push_cell((row * 257 + col * 31) % 90_001, padded, &mut text)?;
+            if col + 1 < SIDE {
+                text.push(b' ')?;
+            }
+        }
+        text.extend_from_slice(line_end)?;
+    }
+    Ok(text)
+}
+
+fn sieved_on_disk(
+    rt: &HostRuntime,
+    alloc: Global,
+    source: &str,
+    dest: &str,
+) -> Result<Status, Fail> {
+    let mut words = Words::new(alloc);
+    for word in ["gdal_sieve", "-st", "1", source, dest] {
+        words.push(word)?;
+    }
+    let mut folder = HostFolder::new(rt, alloc);
+    let mut out = MemorySink::new(alloc);
+    let mut err = MemorySink::new(alloc);
+    Ok(run(alloc, &words, &mut folder, &mut out, &mut err))
+}
+
+#[test]
+fn a_large_grid_goes_through_real_files(rt: HostRuntime) -> Result<(), Fail> {
+    let alloc = rt.alloc();
+    let spelled = large_grid(
+        alloc,
+        b"ncols 600\r\nnrows 600\r\nxllcorner 0\r\nyllcorner 0\r\ncellsize 01\r\n",
+        true,
+        b"\r\n",
+    )?;
+    let canonical = large_grid(
+        alloc,
+        b"ncols 600\nnrows 600\nxllcorner 0\nyllcorner 0\ncellsize 1\n",
+        false,
+        b"\n",
+    )?;
+    assert!(rt; spelled.len() > 2_000_000);
+    fs::write(&rt, "grid.asc", spelled.as_slice())?;
+    assert_eq!(rt;
+        sieved_on_disk(&rt, alloc, "grid.asc", "made.asc")?,
+        Status::Done
+    );
+    assert!(rt; fs::read(&rt, "made.asc")?.as_slice() == canonical.as_slice());
+    assert!(rt; fs::read(&rt, "grid.asc")?.as_slice() == spelled.as_slice());
+    assert_eq!(rt;
+        sieved_on_disk(&rt, alloc, "grid.asc", "grid.asc")?,
+        Status::Done
+    );
+    assert!(rt; fs::read(&rt, "grid.asc")?.as_slice() == canonical.as_slice());
+    Ok(())
+}
+
+#[test]
+fn a_grid_is_written_at_once(rt: HostRuntime) -> Result<(), Fail> {
+    let alloc = rt.alloc();
+    let text = b"ncols 2\nnrows 1\nxllcorner -7\nyllcorner 0\ncellsize 3\n-1 20\n";
+    let read = read_plain(alloc, text)?;
+    let mut out = Vec::from_slice(alloc, b"> ")?;
+    assert!(rt; matches!(&read, Some(grid) if grid.ncols == 2 && grid.cells.get(0, 1) == 20));
+    if let Some(grid) = &read {
+        write_plain(grid, &mut out)?;
+    }
+    assert!(rt;
+        out.as_slice()
+            == b"> ncols 2\nnrows 1\nxllcorner -7\nyllcorner 0\ncellsize 3\n-1 20\n".as_slice()
+    );
+    Ok(())
+}

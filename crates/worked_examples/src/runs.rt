@@ -1,0 +1,246 @@
+// Runs of the whole program over words and files in memory.
+use rv_outside::{Call, MemoryFolder, MemorySink};
+use std::alloc::{AllocError, Global};
+use std::test::Fail;
+use tool_run::{Status, Words, run};
+
+const SIEVE: [&str; 5] = ["gdal_sieve", "-st", "1", "src.asc", "dst.asc"];
+
+const GRID: &[u8] = b"ncols 3\nnrows 2\nxllcorner 0\nyllcorner 0\ncellsize 1\n1 1 2\n1 2 2\n";
+
+// What a run gave.
+#[derive(Drop)]
+struct Ran {
+    status: Status,
+    folder: MemoryFolder,
+    out: MemorySink,
+    err: MemorySink,
+}
+
+impl Ran {
+    fn has(&self, name: &str, bytes: Option<&[u8]>) -> bool {
+        self.folder.file(name) == bytes
+    }
+
+    fn said(&self, line: &[u8]) -> bool {
+        self.err.bytes() == line && self.out.bytes().is_empty()
+    }
+}
+
+fn run_over(
+    alloc: Global,
+    given: &[&str],
+    mut folder: MemoryFolder,
+    mut err: MemorySink,
+) -> Result<Ran, AllocError> {
+    let mut words = Words::new(alloc);
+    for word in given {
+        words.push(word)?;
+    }
+    let mut out = MemorySink::new(alloc);
+    let status = run(alloc, &words, &mut folder, &mut out, &mut err);
+    Ok(Ran {
+        status,
+        folder,
+        out,
+        err,
+    })
+}
+
+fn folder_with(alloc: Global, source: &[u8]) -> Result<MemoryFolder, AllocError> {
+    let mut folder = MemoryFolder::new(alloc);
+    folder.put_file("src.asc", source)?;
+    Ok(folder)
+}
+
+#[test]
+fn plain_grids_are_written_in_their_canonical_text(rt: HostRuntime) -> Result<(), Fail> {
+    let alloc = rt.alloc();
+    let examples: [(&[u8], &[u8]); 4] = [
+        (GRID, GRID),
+        (
+            b"ncols 2 nrows 1 xllcorner 0 yllcorner -0 cellsize 1 007 -0",
+            b"ncols 2\nnrows 1\nxllcorner 0\nyllcorner 0\ncellsize 1\n7 0\n",
+        ),
+        (
+            b"ncols 1\r\nnrows 2\r\nxllcorner -40000000\tyllcorner 39999998\r\ncellsize 1\r\n-999999999999999999\r\n5",
+            b"ncols 1\nnrows 2\nxllcorner -40000000\nyllcorner 39999998\ncellsize 1\n-999999999999999999\n5\n",
+        ),
+        (
+            b"\n\nncols 00000002 nrows 1 xllcorner 7 yllcorner 8 cellsize 00000010\n10 -10\n\n",
+            b"ncols 2\nnrows 1\nxllcorner 7\nyllcorner 8\ncellsize 10\n10 -10\n",
+        ),
+    ];
+    for (source, dest) in examples {
+        let ran = run_over(
+            alloc,
+            &SIEVE,
+            folder_with(alloc, source)?,
+            MemorySink::new(alloc),
+        )?;
+        assert_eq!(rt; ran.status, Status::Done);
+        assert!(rt; ran.has("dst.asc", Some(dest)));
+        assert!(rt; ran.has("src.asc", Some(source)));
+        assert!(rt; ran.said(b""));
+    }
+    Ok(())
+}
+
+#[test]
+fn the_destination_may_be_the_source(rt: HostRuntime) -> Result<(), Fail> {
+    let alloc = rt.alloc();
+    let words = ["gdal_sieve", "-st", "1", "src.asc", "src.asc"];
+    let source = b"ncols 1 nrows 1 xllcorner 0 yllcorner 0 cellsize 1 04";
+    let ran = run_over(
+        alloc,
+        &words,
+        folder_with(alloc, source)?,
+        MemorySink::new(alloc),
+    )?;
+    assert_eq!(rt; ran.status, Status::Done);
+    assert!(rt;
+        ran.has(
+            "src.asc",
+            Some(b"ncols 1\nnrows 1\nxllcorner 0\nyllcorner 0\ncellsize 1\n4\n")
+        )
+    );
+    Ok(())
+}
+
+#[test]
+fn sources_without_a_plain_grid_are_not_built(rt: HostRuntime) -> Result<(), Fail> {
+    let alloc = rt.alloc();
+    let sources: [&[u8]; 12] = [
+        b"",
+        b" \n",
+        b"NCOLS 1 nrows 1 xllcorner 0 yllcorner 0 cellsize 1 4",
+        b"nrows 1 ncols 1 xllcorner 0 yllcorner 0 cellsize 1 4",
+        b"ncols 0 nrows 1 xllcorner 0 yllcorner 0 cellsize 1",
+        b"ncols 1 nrows 1 xllcorner 0 yllcorner 0 cellsize 1.0 4",
+        b"ncols 1 nrows 1 xllcorner 0 yllcorner 0 cellsize 1",
+        b"ncols 1 nrows 1 xllcorner 0 yllcorner 0 cellsize 1 4 5",
+        b"ncols 1 nrows 1 xllcorner 0 yllcorner 0 cellsize 1 +4",
+        b"ncols 1 nrows 1 xllcorner 0 yllcorner 0 cellsize 1 1234567890123456789",
+        b"ncols 4097 nrows 4096 xllcorner 0 yllcorner 0 cellsize 1 4",
+        b"ncols 2 nrows 1 xllcorner 39999999 yllcorner 0 cellsize 1 4 5",
+    ];
+    for source in sources {
+        let ran = run_over(
+            alloc,
+            &SIEVE,
+            folder_with(alloc, source)?,
+            MemorySink::new(alloc),
+        )?;
+        assert_eq!(rt; ran.status, Status::NotBuilt);
+        assert!(rt; ran.said(b"not built\n"));
+        assert!(rt; ran.has("dst.asc", None));
+    }
+    Ok(())
+}
+
+#[test]
+fn words_and_names_are_refused(rt: HostRuntime) -> Result<(), Fail> {
+    let alloc = rt.alloc();
+    let examples: [(&[&str], Status, &[u8]); 7] = [
+        (&[], Status::Usage, b"gdal_tools: no tool at word 1\n"),
+        (
+            &["gdal_warp"],
+            Status::Usage,
+            b"gdal_tools: unknown tool at word 1\n",
+        ),
+        (&["gdal_sieve"], Status::NotBuilt, b"not built\n"),
+        (
+            &["gdal_contour", "-st", "1", "a", "b"],
+            Status::NotBuilt,
+            b"not built\n",
+        ),
+        (
+            &["gdal_sieve", "-st", "1", "-8", "b"],
+            Status::NotBuilt,
+            b"not built\n",
+        ),
+        (
+            &["gdal_sieve", "-st", "1", "a", "b", "c"],
+            Status::NotBuilt,
+            b"not built\n",
+        ),
+        (
+            &["gdal_sieve", "-st", "1", "nosuch.asc", "dst.asc"],
+            Status::Missing,
+            b"nosuch.asc: no such file\n",
+        ),
+    ];
+    for (words, status, line) in examples {
+        let ran = run_over(
+            alloc,
+            words,
+            folder_with(alloc, GRID)?,
+            MemorySink::new(alloc),
+        )?;
+        assert_eq!(rt; ran.status, status);
+        assert!(rt; ran.said(line));
+        assert!(rt; ran.has("src.asc", Some(GRID)));
+        assert!(rt; ran.has("dst.asc", None));
+    }
+    Ok(())
+}
+
+#[test]
+fn the_first_failed_call_ends_the_run(rt: HostRuntime) -> Result<(), Fail> {
+    let alloc = rt.alloc();
+    let examples: [(Call, u64, Status, &[u8], Option<&[u8]>); 4] = [
+        (
+            Call::Read,
+            1,
+            Status::ReadFault,
+            b"src.asc: read failed\n",
+            None,
+        ),
+        (
+            Call::Read,
+            2,
+            Status::ReadFault,
+            b"src.asc: read failed\n",
+            None,
+        ),
+        (
+            Call::Create,
+            1,
+            Status::WriteFault,
+            b"dst.asc: write failed\n",
+            None,
+        ),
+        (
+            Call::Append,
+            1,
+            Status::WriteFault,
+            b"dst.asc: write failed\n",
+            Some(b""),
+        ),
+    ];
+    for (call, n, status, line, dest) in examples {
+        let mut folder = folder_with(alloc, GRID)?;
+        folder.fail(call, n)?;
+        let ran = run_over(alloc, &SIEVE, folder, MemorySink::new(alloc))?;
+        assert_eq!(rt; ran.status, status);
+        assert!(rt; ran.said(line));
+        assert!(rt; ran.has("dst.asc", dest));
+        assert!(rt; ran.has("src.asc", Some(GRID)));
+    }
+    Ok(())
+}
+
+#[test]
+fn a_failing_sink_changes_no_status(rt: HostRuntime) -> Result<(), Fail> {
+    let alloc = rt.alloc();
+    let examples: [(u64, &[u8]); 2] = [(1, b""), (2, b"nosuch.asc")];
+    for (n, said) in examples {
+        let mut err = MemorySink::new(alloc);
+        err.fail(n)?;
+        let words = ["gdal_sieve", "-st", "1", "nosuch.asc", "dst.asc"];
+        let ran = run_over(alloc, &words, folder_with(alloc, GRID)?, err)?;
+        assert_eq!(rt; ran.status, Status::Missing);
+        assert!(rt; ran.said(said));
+    }
+    Ok(())
+}
