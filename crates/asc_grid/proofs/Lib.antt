@@ -4,3 +4,4 @@ pub mod WriteLemmas
 pub mod HeaderLemmas
 pub mod HalfLemmas
 pub mod LayoutLemmas
+mod GridExamples
