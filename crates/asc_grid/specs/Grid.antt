@@ -38,7 +38,7 @@ unless None a = Ok a
 unless (Some fault) a = Err fault
 
 -- the grid of a text whose cells are read so, or its first offence
-abbrev pub grid_of : {T : Type 0} → (List ℕ → Result T CellFault) → List ℕ → Result (Asc T) GridFault
+unfoldable pub grid_of : {T : Type 0} → (List ℕ → Result T CellFault) → List ℕ → Result (Asc T) GridFault
 grid_of read text =
     let header : Header = header_of (tokens_of text) in
     unless (first_offence read (last_line text) header) (grid_in read header)

@@ -77,6 +77,7 @@ fn fault_here(kind: GridKind, tokens: &Tokens<'_>) -> GridFault
 
 /// The grid of a text. `At` with the text's first offence and its line exactly where it has one; a nodata value that
 /// the type doesn't read is none.
+#[tactic(auto, unfolding(crate::specs::Grid::grid_of))]
 pub fn read_grid<T: Cell>(alloc: Global, text: &[u8]) -> Result<Asc<T>, GridFault>
     ensures grid { IfOk result (λ asc. grid_of T.read_of text.now ≡ Ok asc) }
     ensures refused { IfErr result (λ fault. fault ≢ GridFault.NoMemory → grid_of T.read_of text.now ≡ Err fault) }

@@ -1,7 +1,9 @@
 -- Lines that a sink takes in two parts.
 use Rattle.std.proofs.Common.{◌≡◌, ◌≤◌, ◌++◌, [], ◌+◌, ℕ, List, Option, Ok, Err, IsErrOf, length, take, drop, refl, arith}
 use Rattle.std.proofs.lemmas.Grind.{common_steps}
+use Rattle.std.proofs.lemmas.List.{take-append-le}
 use Rattle.std.proofs.Math.Seq.{take-add}
+use Rattle.std.specs.declared.result.Result.{Result}
 use Rattle.rv_outside.specs.Causes.{Counts}
 use Rattle.rv_outside.specs.Sink.{Adds, SinkState, Says}
 use Rattle.rv_outside.specs.declared.folder.Trouble.{Trouble}
@@ -20,7 +22,7 @@ counts_on : {P : Type 0} (before mid now : ℕ) → mid ≡ before → Counts P 
 counts_on before mid now same counts = rw same at counts
 
 -- the first part was taken, and the second cut off
-pub says_second : (first second : List ℕ) (trouble : Trouble) (old mid new : SinkState) → Says first (Ok tt) old mid → Says second (Err trouble) mid new → Says (first ++ second) (Err trouble) old new
+says_second : (first second : List ℕ) (trouble : Trouble) (old mid new : SinkState) → Says first (Ok tt) old mid → Says second (Err trouble) mid new → Says (first ++ second) (Err trouble) old new
 says_second first second trouble old mid new one two = record {
   said = tt;
   part = adds_second old.written mid.written new.written first second two.part.0 two.part.1 one.said two.part.2;
@@ -29,6 +31,31 @@ says_second first second trouble old mid new one two = record {
     wants = counts_on _ _ _ (one.leaves.wants.stood (λ no. cc no)) two.leaves.wants;
   };
 }
+
+says_all : (first second : List ℕ) (old mid new : SinkState) → Says first (Ok tt) old mid → Says second (Ok tt) mid new → Says (first ++ second) (Ok tt) old new
+says_all first second old mid new one two = record {
+  said = adds_then old.written mid.written new.written first second one.said two.said;
+  part = tt;
+  leaves = record {
+    faults = counts_on _ _ _ (one.leaves.faults.stood (λ no. cc no)) two.leaves.faults;
+    wants = counts_on _ _ _ (one.leaves.wants.stood (λ no. cc no)) two.leaves.wants;
+  };
+}
+
+-- the first part was taken, and the second, or some of it
+pub says_then : (first second : List ℕ) (r : Result (Unit {0}) Trouble) (old mid new : SinkState) → Says first (Ok tt) old mid → Says second r mid new → Says (first ++ second) r old new
+says_then first second (Ok u) old mid new one two = says_all first second old mid new one two
+says_then first second (Err trouble) old mid new one two = says_second first second trouble old mid new one two
+
+-- some of the first part was taken, and nothing of what comes behind it
+pub says_before : (first more : List ℕ) (trouble : Trouble) (old new : SinkState) → Says first (Err trouble) old new → Says (first ++ more) (Err trouble) old new
+says_before first more trouble old new one =
+    let front : take one.part.0 (first ++ more) ≡ take one.part.0 first = take-append-le one.part.0 first more one.part.1 in
+    record {
+      said = tt;
+      part = (one.part.0, grind (arith, common_steps, one.part.1), rw front one.part.2);
+      leaves = one.leaves;
+    }
 
 -- an empty line is handed over by doing nothing
 pub says_nothing : (state : SinkState) → SaysLine [] state state

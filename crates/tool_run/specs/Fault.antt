@@ -3,9 +3,11 @@ use Rattle.rv_outside.specs.declared.folder.Trouble.{Trouble}
 use Rattle.rv_outside.specs.declared.folder.Trouble.TheVariants as trouble
 use Rattle.rv_outside.specs.declared.transfer.FetchFault.{FetchFault}
 use Rattle.rv_outside.specs.declared.transfer.FetchFault.TheVariants as fetch
+use Rattle.asc_grid.specs.declared.fault.GridFault.{GridFault}
+use Rattle.asc_grid.specs.declared.fault.GridFault.TheVariants as grid
 use Rattle.tool_run.specs.declared.fault.Role.TheVariants.{Source, Mask}
 use Rattle.tool_run.specs.declared.fault.Fault.{Fault}
-use Rattle.tool_run.specs.declared.fault.Fault.TheVariants.{Missing, ReadFault, WriteFault, NoMemory}
+use Rattle.tool_run.specs.declared.fault.Fault.TheVariants.{Missing, ReadFault, Grid, WriteFault, NotBuilt, NoMemory}
 
 -- the fault of a source that could not be read
 abbrev pub of_fetch : FetchFault → Fault
@@ -18,8 +20,21 @@ abbrev pub of_write : Trouble → Fault
 of_write trouble.Failed = WriteFault
 of_write trouble.NoMemory = NoMemory
 
+-- the fault of a source whose text has no grid
+abbrev pub of_grid : GridFault → Fault
+of_grid (grid.At kind line) = Grid Source (grid.At kind line)
+of_grid grid.NoMemory = NoMemory
+
+-- a fault that a source can have; want of memory is `NoMemory` alone
+abbrev pub IsSourceFault : Fault → Type 0
+IsSourceFault (Missing Source) = Unit {0}
+IsSourceFault (ReadFault Source) = Unit {0}
+IsSourceFault (Grid Source (grid.At kind line)) = Unit {0}
+IsSourceFault NoMemory = Unit {0}
+IsSourceFault fault = ⊥
+
 -- a fault that a sieve can have, which reads no mask yet
 abbrev pub IsSieveFault : Fault → Type 0
-IsSieveFault (Missing Mask) = ⊥
-IsSieveFault (ReadFault Mask) = ⊥
-IsSieveFault fault = Unit {0}
+IsSieveFault WriteFault = Unit {0}
+IsSieveFault NotBuilt = Unit {0}
+IsSieveFault fault = IsSourceFault fault

@@ -1,6 +1,10 @@
 -- The status of a run.
 use Rattle.std.specs.Prelude.{ℕ, Ok, Err}
 use Rattle.std.specs.declared.result.Result.{Result}
+use Rattle.asc_grid.specs.declared.fault.GridKind.{GridKind}
+use Rattle.asc_grid.specs.declared.fault.GridKind.TheVariants as kind
+use Rattle.asc_grid.specs.declared.fault.GridFault.{GridFault}
+use Rattle.asc_grid.specs.declared.fault.GridFault.TheVariants as grid
 use Rattle.tool_run.specs.declared.status.Status.{Status}
 use Rattle.tool_run.specs.declared.status.Status.TheVariants.{Done, Usage, BadInput, Missing, ReadFault, WriteFault, NoMemory, TooLarge, NotBuilt}
 use Rattle.tool_run.specs.declared.fault.Fault.{Fault}
@@ -18,10 +22,20 @@ number_of NoMemory = 6
 number_of TooLarge = 7
 number_of NotBuilt = 8
 
+-- the status of a grid's offence
+abbrev pub status_of_kind : GridKind → Status
+status_of_kind (kind.TooLarge cells) = TooLarge
+status_of_kind other = BadInput
+
+abbrev pub status_of_grid : GridFault → Status
+status_of_grid (grid.At kind line) = status_of_kind kind
+status_of_grid grid.NoMemory = NoMemory
+
 -- the status of a fault
 abbrev pub status_of_fault : Fault → Status
 status_of_fault (fault.Missing role) = Missing
 status_of_fault (fault.ReadFault role) = ReadFault
+status_of_fault (fault.Grid role offence) = status_of_grid offence
 status_of_fault fault.WriteFault = WriteFault
 status_of_fault fault.NotBuilt = NotBuilt
 status_of_fault fault.NoMemory = NoMemory

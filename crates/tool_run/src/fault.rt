@@ -1,4 +1,5 @@
 // Why a tool did not do its job.
+use asc_grid::GridFault;
 use rv_outside::{FetchFault, Trouble};
 use std::alloc::AllocError;
 use thiserror::Error;
@@ -19,10 +20,13 @@ pub enum Fault {
     /// A read failed.
     #[error("read failed")]
     ReadFault(Role),
+    /// The text has no grid.
+    #[error("no grid")]
+    Grid(Role, GridFault),
     /// The destination could not be made, or a write to it failed.
     #[error("write failed")]
     WriteFault,
-    /// The job, or the form of the source, is not built yet.
+    /// The job is not built yet.
     #[error("not built")]
     NotBuilt,
     /// Memory ran out.
@@ -53,6 +57,21 @@ impl From<FetchFault> for Fault {
             FetchFault::Missing => Fault::Missing(Role::Source),
             FetchFault::Fault => Fault::ReadFault(Role::Source),
             FetchFault::NoMemory => Fault::NoMemory,
+        }
+    }
+}
+
+// And the only text that is read as a grid.
+impl From<GridFault> for Fault {
+    ghost use Rattle.std.specs.Prelude.{◌≡◌};
+    ghost use Rattle.tool_run.specs.Fault.{of_grid};
+
+    ghost from_gives = { λ grid fault. fault ≡ of_grid grid };
+
+    fn from(grid: GridFault) -> Fault {
+        match grid {
+            GridFault::At { .. } => Fault::Grid(Role::Source, grid),
+            GridFault::NoMemory => Fault::NoMemory,
         }
     }
 }

@@ -1,5 +1,5 @@
 // The edges that tell nothing of what they hold: real files and a writer, compared by the system's own calls.
-use asc_grid::{read_plain, write_plain};
+use asc_grid::{read_grid, write_grid};
 use rv_outside::{
     FetchFault, Folder, HostFolder, MemorySink, StdSink, Taken, append_all, read_whole, say,
 };
@@ -171,12 +171,12 @@ fn a_large_grid_goes_through_real_files(rt: HostRuntime) -> Result<(), Fail> {
 fn a_grid_is_written_at_once(rt: HostRuntime) -> Result<(), Fail> {
     let alloc = rt.alloc();
     let text = b"ncols 2\nnrows 1\nxllcorner -7\nyllcorner 0\ncellsize 3\n-1 20\n";
-    let read = read_plain(alloc, text)?;
+    let Ok(asc) = read_grid::<i16>(alloc, text) else {
+        return Err("no grid".into());
+    };
+    assert!(rt; asc.frame.ncols == 2 && asc.cells.get(0, 1) == 20);
     let mut out = Vec::from_slice(alloc, b"> ")?;
-    assert!(rt; matches!(&read, Some(grid) if grid.ncols == 2 && grid.cells.get(0, 1) == 20));
-    if let Some(grid) = &read {
-        write_plain(grid, &mut out)?;
-    }
+    write_grid(&asc, &mut out)?;
     assert!(rt;
         out.as_slice()
             == b"> ncols 2\nnrows 1\nxllcorner -7\nyllcorner 0\ncellsize 3\n-1 20\n".as_slice()

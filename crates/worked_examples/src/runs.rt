@@ -53,25 +53,43 @@ fn folder_with(alloc: Global, source: &[u8]) -> Result<MemoryFolder, AllocError>
     Ok(folder)
 }
 
+// Sources, and what is written of them.
+const WRITTEN: [(&[u8], &[u8]); 8] = [
+    (GRID, GRID),
+    (
+        b"NCOLS        3\nNROWS        2\nXLLCORNER    0.000000000000\nYLLCORNER    0.000000000000\nCELLSIZE     1.000000000000\n 1 1 2\n 1 2 2\n",
+        GRID,
+    ),
+    (
+        b"ncols 2 nrows 1 xllcorner 0 yllcorner -0 cellsize 1 007 -0",
+        b"ncols 2\nnrows 1\nxllcorner 0\nyllcorner 0\ncellsize 1\n7 0\n",
+    ),
+    (
+        b"ncols 1\r\nnrows 2\r\nxllcorner -40000000\tyllcorner 39999998\r\ncellsize 1\r\n-9223372036854775808\r\n5",
+        b"ncols 1\nnrows 2\nxllcorner -40000000\nyllcorner 39999998\ncellsize 1\n-9223372036854775808\n5\n",
+    ),
+    (
+        b"\n\nyllcorner 8 cellsize 1e1 ncols 00000002 nrows 1 xllcorner .5\n10 -10\n\n",
+        b"ncols 2\nnrows 1\nxllcorner 0.5\nyllcorner 8\ncellsize 10\n10 -10\n",
+    ),
+    (
+        b"ncols 1 nrows 1 xllcenter 0.5 yllcenter 0 cellsize 1 4",
+        b"ncols 1\nnrows 1\nxllcorner 0\nyllcorner -0.5\ncellsize 1\n4\n",
+    ),
+    (
+        b"ncols 1 nrows 1 xllcenter 0 yllcenter 0 cellsize 0.0000000001 4",
+        b"ncols 1\nnrows 1\nxllcorner -0.0000000001\nyllcorner -0.0000000001\ncellsize 0.0000000001\n4\n",
+    ),
+    (
+        b"ncols 2 nrows 1 xllcorner 0 yllcorner 0 cellsize 1 nodata_VALUE -9999.0 4 -9999",
+        b"ncols 2\nnrows 1\nxllcorner 0\nyllcorner 0\ncellsize 1\nNODATA_value -9999\n4 -9999\n",
+    ),
+];
+
 #[test]
-fn plain_grids_are_written_in_their_canonical_text(rt: HostRuntime) -> Result<(), Fail> {
+fn grids_are_written_in_their_canonical_text(rt: HostRuntime) -> Result<(), Fail> {
     let alloc = rt.alloc();
-    let examples: [(&[u8], &[u8]); 4] = [
-        (GRID, GRID),
-        (
-            b"ncols 2 nrows 1 xllcorner 0 yllcorner -0 cellsize 1 007 -0",
-            b"ncols 2\nnrows 1\nxllcorner 0\nyllcorner 0\ncellsize 1\n7 0\n",
-        ),
-        (
-            b"ncols 1\r\nnrows 2\r\nxllcorner -40000000\tyllcorner 39999998\r\ncellsize 1\r\n-999999999999999999\r\n5",
-            b"ncols 1\nnrows 2\nxllcorner -40000000\nyllcorner 39999998\ncellsize 1\n-999999999999999999\n5\n",
-        ),
-        (
-            b"\n\nncols 00000002 nrows 1 xllcorner 7 yllcorner 8 cellsize 00000010\n10 -10\n\n",
-            b"ncols 2\nnrows 1\nxllcorner 7\nyllcorner 8\ncellsize 10\n10 -10\n",
-        ),
-    ];
-    for (source, dest) in examples {
+    for (source, dest) in WRITTEN {
         let ran = run_over(
             alloc,
             &SIEVE,
@@ -107,32 +125,78 @@ fn the_destination_may_be_the_source(rt: HostRuntime) -> Result<(), Fail> {
     Ok(())
 }
 
-#[test]
-fn sources_without_a_plain_grid_are_not_built(rt: HostRuntime) -> Result<(), Fail> {
-    let alloc = rt.alloc();
-    let sources: [&[u8]; 12] = [
-        b"",
+// Sources that are refused, and the line of each.
+const REFUSED: [(&[u8], Status, &[u8]); 12] = [
+    (b"", Status::BadInput, b"src.asc: line 1: missing keyword\n"),
+    (
         b" \n",
-        b"NCOLS 1 nrows 1 xllcorner 0 yllcorner 0 cellsize 1 4",
-        b"nrows 1 ncols 1 xllcorner 0 yllcorner 0 cellsize 1 4",
-        b"ncols 0 nrows 1 xllcorner 0 yllcorner 0 cellsize 1",
-        b"ncols 1 nrows 1 xllcorner 0 yllcorner 0 cellsize 1.0 4",
-        b"ncols 1 nrows 1 xllcorner 0 yllcorner 0 cellsize 1",
-        b"ncols 1 nrows 1 xllcorner 0 yllcorner 0 cellsize 1 4 5",
-        b"ncols 1 nrows 1 xllcorner 0 yllcorner 0 cellsize 1 +4",
-        b"ncols 1 nrows 1 xllcorner 0 yllcorner 0 cellsize 1 1234567890123456789",
-        b"ncols 4097 nrows 4096 xllcorner 0 yllcorner 0 cellsize 1 4",
-        b"ncols 2 nrows 1 xllcorner 39999999 yllcorner 0 cellsize 1 4 5",
-    ];
-    for source in sources {
+        Status::BadInput,
+        b"src.asc: line 2: missing keyword\n",
+    ),
+    (
+        b"ncols 2\nnrows 2\nxllcorner 0\nyllcorner 0\ncellsize 1\n1 2\n3\n",
+        Status::BadInput,
+        b"src.asc: line 8: too few cells\n",
+    ),
+    (
+        b"ncols 2\nnrows 2\nxllcorner 0\nyllcorner 0\ncellsize 1\n1 2\n3 4 5\n",
+        Status::BadInput,
+        b"src.asc: line 7: too many cells\n",
+    ),
+    (
+        b"ncols 2\nnrows 2\nxllcorner 0\nyllcorner 0\ncellsize 1\n1 12.5\n3 4\n",
+        Status::BadInput,
+        b"src.asc: line 6: bad cell\n",
+    ),
+    (
+        b"nclos 2\nnrows 2\nxllcorner 0\nyllcorner 0\ncellsize 1\n1 2\n3 4\n",
+        Status::BadInput,
+        b"src.asc: line 1: unknown keyword\n",
+    ),
+    (
+        b"ncols 16777217\nnrows 1\nxllcorner 0\nyllcorner 0\ncellsize 1\n1\n",
+        Status::TooLarge,
+        b"src.asc: line 6: too large: 16777217\n",
+    ),
+    (
+        b"ncols 2147483647 nrows 2147483647 xllcorner 0 yllcorner 0 cellsize 1",
+        Status::TooLarge,
+        b"src.asc: line 1: too large: 4611686014132420609\n",
+    ),
+    (
+        b"ncols 4096 nrows 4096 xllcorner 0 yllcorner 0 cellsize 1\n",
+        Status::BadInput,
+        b"src.asc: line 2: too few cells\n",
+    ),
+    (
+        b"ncols 2 nrows 1\nxllcorner 39999999 yllcorner 0 cellsize 1\n4 5",
+        Status::BadInput,
+        b"src.asc: line 3: out of range\n",
+    ),
+    (
+        b"ncols 1\nnrows 1\nNROWS 1\n",
+        Status::BadInput,
+        b"src.asc: line 3: repeated keyword\n",
+    ),
+    (
+        b"ncols 3\nnrows 2\nxllcorner 0\nyllcorner 0\ncellsize 1\nNODATA_value -3.4028234663852886e+38\n0.5 10.5 -3.4028234663852886e+38\n0.5 10.5 -3.4028234663852886e+38\n",
+        Status::BadInput,
+        b"src.asc: line 7: bad cell\n",
+    ),
+];
+
+#[test]
+fn the_first_offence_of_a_source_is_told(rt: HostRuntime) -> Result<(), Fail> {
+    let alloc = rt.alloc();
+    for (source, status, line) in REFUSED {
         let ran = run_over(
             alloc,
             &SIEVE,
             folder_with(alloc, source)?,
             MemorySink::new(alloc),
         )?;
-        assert_eq!(rt; ran.status, Status::NotBuilt);
-        assert!(rt; ran.said(b"not built\n"));
+        assert_eq!(rt; ran.status, status);
+        assert!(rt; ran.said(line));
         assert!(rt; ran.has("dst.asc", None));
     }
     Ok(())

@@ -1,17 +1,8 @@
 -- What the two steps of a tool leave behind: the source that is read, and the destination that is written.
 use Rattle.std.specs.Prelude.{◌≡◌, ◌⊎◌, ℕ, List, Option, take}
 use Rattle.rv_outside.specs.Files.{Files, Becomes, with_file}
-use Rattle.tool_run.specs.declared.fault.Role.TheVariants.{Source}
 use Rattle.tool_run.specs.declared.fault.Fault.{Fault}
-use Rattle.tool_run.specs.declared.fault.Fault.TheVariants.{Missing, ReadFault, WriteFault, NotBuilt, NoMemory}
-
--- a fault that a source can have
-abbrev pub IsSourceFault : Fault → Type 0
-IsSourceFault (Missing Source) = Unit {0}
-IsSourceFault (ReadFault Source) = Unit {0}
-IsSourceFault NotBuilt = Unit {0}
-IsSourceFault NoMemory = Unit {0}
-IsSourceFault fault = ⊥
+use Rattle.tool_run.specs.declared.fault.Fault.TheVariants.{WriteFault, NoMemory}
 
 -- a fault that a destination can have
 abbrev pub IsWriteFault : Fault → Type 0

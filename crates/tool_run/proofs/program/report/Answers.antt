@@ -1,7 +1,3 @@
-use Rattle.std.proofs.Common.{◌≡◌, [], refl}
-use Rattle.std.specs.Prelude.{codes}
-use Rattle.tool_run.specs.Message.{line_of_job}
-use Rattle.tool_run.specs.Status.{status_of}
 use Rattle.tool_run.proofs.MessageLemmas.{says_nothing}
 use Rattle.tool_run.proofs.program.report.Goals as goal
 

@@ -1,22 +1,26 @@
-use Rattle.std.proofs.Common.{◌≡◌, ◌++◌, rules, arith, sym, ap, ◌∙◌, append_assoc}
-use Rattle.asc_grid.specs.Canonical.{canonical_text}
+use Rattle.std.proofs.Common.{◌≡◌, ◌++◌, ℕ, ℤ, List, rules, arith, sym, ap, ◌∙◌, append_assoc}
+use Rattle.asc_grid.specs.Canonical.{spelled}
+use Rattle.asc_grid.specs.Text.{text_left}
+use Rattle.tool_run.specs.Source.{text_of}
 use Rattle.rv_outside.proofs.FilesLemmas.{made_then}
 use Rattle.tool_run.proofs.DestLemmas.{part_written, more_written}
 use Rattle.tool_run.proofs.sieve.write_dest.Goals as goal
 
 pub returns-in_err-next-clause-part : goal.returns-in_err-next-clause-part
 returns-in_err-next-clause-part g c =
-    let inv = c.loop-piece.invariant.written in
-    let part = part_written _ _ c.args.name.now (canonical_text c.args.grid.now) inv.0 c.loop-piece.text inv.1 inv.2 in
+    let spell : ℤ → List ℕ = spelled (λ n. n) 0 in
+    let inv = c.pieces.invariant.written in
+    let part = part_written _ _ c.args.name.now (text_of c.args.asc.now) inv.0 (text_left spell c.pieces.text) inv.1 inv.2 in
     grind (arith, part)
 
-pub loop-piece-preserved : goal.loop-piece-preserved
-loop-piece-preserved g c =
-    let inv = c.loop-piece.invariant in
+pub pieces-preserved : goal.pieces-preserved
+pieces-preserved g c =
+    let spell : ℤ → List ℕ = spelled (λ n. n) 0 in
+    let inv = c.pieces.invariant in
     let piece = c.next.new.piece.items in
-    let left : c.loop-piece.text ≡ piece ++ c.next.new.self = c.in_ok-next.ensures.ok in
+    let left : text_left spell c.pieces.text ≡ piece ++ text_left spell c.next.new.self = c.in_ok-next.ensures.ok in
     record {
-      written = (inv.written.0 ++ piece, inv.written.1 ∙ ap (λ xs. inv.written.0 ++ xs) left ∙ sym (append_assoc inv.written.0 piece c.next.new.self), made_then _ _ _ c.args.name.now inv.written.0 piece inv.written.2 (rw c.deref.ensures.value at c.in_ok-append_all.ensures.added));
+      written = (inv.written.0 ++ piece, inv.written.1 ∙ ap (λ xs. inv.written.0 ++ xs) left ∙ sym (append_assoc inv.written.0 piece (text_left spell c.next.new.self)), made_then _ _ _ c.args.name.now inv.written.0 piece inv.written.2 (rw c.deref.ensures.value at c.in_ok-append_all.ensures.added));
       write_faults = search rules;
       read_faults = search rules;
       missing = search rules;
@@ -24,9 +28,10 @@ loop-piece-preserved g c =
 
 pub returns-in_err-append_all-clause-part : goal.returns-in_err-append_all-clause-part
 returns-in_err-append_all-clause-part g c =
-    let inv = c.loop-piece.invariant.written in
+    let spell : ℤ → List ℕ = spelled (λ n. n) 0 in
+    let inv = c.pieces.invariant.written in
     let piece = c.next.new.piece.items in
-    let left : c.loop-piece.text ≡ piece ++ c.next.new.self = c.in_ok-next.ensures.ok in
+    let left : text_left spell c.pieces.text ≡ piece ++ text_left spell c.next.new.self = c.in_ok-next.ensures.ok in
     let err = rw c.deref.ensures.value at c.in_err-append_all.ensures.part in
-    let part = more_written _ _ _ c.args.name.now (canonical_text c.args.grid.now) inv.0 piece c.next.new.self err.0 (inv.1 ∙ ap (λ xs. inv.0 ++ xs) left) inv.2 err.2 in
+    let part = more_written _ _ _ c.args.name.now (text_of c.args.asc.now) inv.0 piece (text_left spell c.next.new.self) err.0 (inv.1 ∙ ap (λ xs. inv.0 ++ xs) left) inv.2 err.2 in
     grind (arith, part)
