@@ -1,12 +1,11 @@
 -- Going on in a text.
-use Rattle.std.proofs.Common.{◌≡◌, ℕ, suc, ◌+◌, ◌<◌, ◌≤◌, Bool, true, false, List, [], ◌∷◌, ◌++◌, length, take, drop, Option, Some, None, IfSome, IfNone, not, cond, arith, refl, sym, ap, ◌∙◌, add_assoc}
+use Rattle.std.proofs.Common.{◌≡◌, ℕ, ◌+◌, ◌<◌, Bool, true, false, List, [], ◌∷◌, ◌++◌, length, take, drop, Option, Some, None, IfSome, IfNone, not, cond, arith, refl, sym, ap, ◌∙◌, add_assoc}
 use Rattle.std.proofs.lemmas.Bool.{false≢true}
 use Rattle.std.proofs.lemmas.List.{drop-drop, take-append-drop}
 use Rattle.std.proofs.lemmas.List.Sums.{sum_by-append}
-use Rattle.std.proofs.lemmas.Grind.{common_steps}
 use Rattle.std.proofs.Math.Seq.{take-add}
 use Rattle.std.specs.Option.{is_some}
-use Rattle.asc_grid.specs.Tokens.{Token, begins_with_token, is_blank, is_line_end, joined_to, line_behind, tokens_from}
+use Rattle.asc_grid.specs.Tokens.{Token, begins_with_token, is_blank, is_line_end, line_behind, tokens_from}
 use Rattle.asc_grid.specs.Header.{begins_number, end_line}
 use Rattle.asc_grid.specs.Inner.Cursor.{Cursor, begins_keyword, end_of, further, tokens_at}
 use Rattle.asc_grid.proofs.TokenLemmas.{solid_stays}

@@ -1,5 +1,5 @@
 -- Pairs of a header, one behind the other.
-use Rattle.std.proofs.Common.{◌≡◌, ℕ, Bool, true, false, List, [], ◌∷◌, ◌++◌, drop, Option, Some, None, Result, IfSome, ◌||◌, cond, not, refl, sym, ap, ◌∙◌, append-nil, append_assoc}
+use Rattle.std.proofs.Common.{◌≡◌, ℕ, Bool, true, false, List, [], ◌∷◌, ◌++◌, drop, Option, Some, None, Result, ◌||◌, cond, not, refl, sym, ap, ◌∙◌, append-nil, append_assoc}
 use Rattle.std.specs.Prelude.{find, if◌then◌else◌, is_some, option_map, pos}
 use Rattle.std.specs.List.{list_any}
 use Rattle.std.specs.Option.{option_or}
@@ -8,8 +8,8 @@ use Rattle.std.proofs.lemmas.Bool.{false≢true}
 use Rattle.std.proofs.lemmas.List.Folds.{find-append}
 use Rattle.cell_base.specs.declared.fault.CellFault.{CellFault}
 use Rattle.asc_grid.specs.Tokens.{Token}
-use Rattle.asc_grid.specs.Keyword.{keyword_of, number_of}
-use Rattle.asc_grid.specs.Header.{Header, Pair, begins_number, edge_in, header_of, is_of, said_of, value_text, values_of, without_pairs}
+use Rattle.asc_grid.specs.Keyword.{keyword_of}
+use Rattle.asc_grid.specs.Header.{Pair, begins_number, edge_in, header_of, is_of, said_of, value_text, values_of, without_pairs}
 use Rattle.asc_grid.specs.Offence.{offence_of_pair, offence_of_pairs, offence_of_value}
 use Rattle.asc_grid.specs.Value.{position_of, wrong_value}
 use Rattle.asc_grid.specs.Inner.Cursor.{begins_keyword}

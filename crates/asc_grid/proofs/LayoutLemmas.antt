@@ -1,5 +1,5 @@
 -- The frame that a header's values make.
-use Rattle.std.proofs.Common.{◌≡◌, ℕ, ℤ, ◌*◌, ◌<◌, ◌≤◌, ◌<ℤ◌, Bool, true, false, Option, Some, None, Result, Ok, Err, not, pos, refl, sym, ap, ◌∙◌, arith}
+use Rattle.std.proofs.Common.{◌≡◌, ℕ, ℤ, ◌*◌, ◌<◌, ◌≤◌, ◌<ℤ◌, Bool, true, false, Some, None, Ok, Err, not, pos, refl, sym, ap, ◌∙◌, arith}
 use Rattle.std.specs.Prelude.{if◌then◌else◌}
 use Rattle.std.proofs.lemmas.Bool.Decides.{nat_tests}
 use Rattle.fixed_coord.specs.Limits.{most_cells}
@@ -11,7 +11,6 @@ use Rattle.geo_transform.specs.declared.frame.Frame.{Frame}
 use Rattle.geo_transform.specs.declared.fault.FrameFault.{FrameFault}
 use Rattle.geo_transform.specs.declared.fault.FrameFault.TheVariants as frame_fault
 use Rattle.asc_grid.specs.Offence.{wrong_layout}
-use Rattle.asc_grid.specs.declared.fault.GridKind.{GridKind}
 use Rattle.asc_grid.specs.declared.fault.GridKind.TheVariants.{OutOfRange}
 
 -- the counts and the size are positive, and there are not too many cells

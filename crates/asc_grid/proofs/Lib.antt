@@ -5,3 +5,6 @@ pub mod HeaderLemmas
 pub mod HalfLemmas
 pub mod LayoutLemmas
 mod GridExamples
+pub mod CanonicalTokenLemmas
+pub mod CanonicalLemmas
+pub mod ReadBackLemmas

@@ -4,7 +4,7 @@ use Rattle.std.specs.Prelude.{if◌then◌else◌}
 use Rattle.std.proofs.lemmas.Bool.{false≢true}
 use Rattle.std.proofs.lemmas.List.Sums.{sum_by-cons}
 use Rattle.std.proofs.lemmas.Bool.Decides.{nat_tests}
-use Rattle.asc_grid.specs.Tokens.{Token, begins_with_token, is_blank, is_line_end, line_behind, tokens_from}
+use Rattle.asc_grid.specs.Tokens.{begins_with_token, is_blank, is_line_end, line_behind, tokens_from}
 
 -- one byte further is one line further where it ends a line
 abbrev line_after : ℕ → ℕ → ℕ

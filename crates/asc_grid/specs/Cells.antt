@@ -1,5 +1,5 @@
 -- The cells of a grid: exactly as many tokens as there are places, each read as a cell. Source: ESRI ASCII grid.
-use Rattle.std.specs.Prelude.{ℕ, nat_lt, List, length, take, Option, Some, None, Result, find, option_map, slice_get, if◌then◌else◌}
+use Rattle.std.specs.Prelude.{ℕ, nat_lt, List, length, take, Option, Some, Result, find, option_map, slice_get, if◌then◌else◌}
 use Rattle.std.specs.List.{filter_map}
 use Rattle.std.specs.Option.{option_or}
 use Rattle.std.specs.Result.{is_err, result_ok}

@@ -1,5 +1,5 @@
 -- The grid of a text, or its first offence. Source: ESRI ASCII grid.
-use Rattle.std.specs.Prelude.{ℕ, ◌*◌, List, [], ◌∷◌, Option, Some, None, Result, Ok, Err, option_map}
+use Rattle.std.specs.Prelude.{ℕ, ◌*◌, List, [], Option, Some, None, Result, Ok, Err, option_map}
 use Rattle.std.specs.Option.{option_or}
 use Rattle.cell_base.specs.Raster.{raster_of}
 use Rattle.cell_base.specs.declared.fault.CellFault.{CellFault}

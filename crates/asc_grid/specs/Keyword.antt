@@ -1,5 +1,5 @@
 -- The keywords of a grid's header. Source: ESRI ASCII grid.
-use Rattle.std.specs.Prelude.{ℕ, Bool, true, false, List, [], ◌∷◌, Option, find, option_map, codes}
+use Rattle.std.specs.Prelude.{ℕ, true, false, List, [], ◌∷◌, Option, find, option_map, codes}
 use Rattle.std.specs.Str.{str_eq_ignore_ascii_case}
 use Rattle.asc_grid.specs.declared.keyword.Group.{Group}
 use Rattle.asc_grid.specs.declared.keyword.Group.TheVariants.{Columns, Rows, Left, Lower, Size, Nodata}

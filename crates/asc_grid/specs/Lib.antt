@@ -8,4 +8,5 @@ pub mod Offence
 pub mod Text
 pub mod Tokens
 pub mod Value
+pub mod Written
 pub mod Inner

@@ -8,9 +8,11 @@ mod fault;
 mod grid;
 mod header;
 mod keyword;
+mod laws;
 mod tokens;
 mod write;
 
 pub use fault::{GridFault, GridKind};
 pub use grid::{Asc, read_grid};
+pub use laws::reads_what_is_written;
 pub use write::{GridText, write_grid};

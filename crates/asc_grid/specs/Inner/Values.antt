@@ -1,5 +1,5 @@
 -- The values of a header while its pairs are read.
-use Rattle.std.specs.Prelude.{ℕ, ℤ, ◌≡◌, ◌<◌, ◌<ℤ◌, Bool, List, [], ◌∷◌, ◌++◌, Option, Some, None, Result, IfSome, is_some, pos, slice_get}
+use Rattle.std.specs.Prelude.{ℕ, ℤ, ◌≡◌, ◌<◌, ◌<ℤ◌, Bool, List, [], ◌∷◌, ◌++◌, Some, None, Result, IfSome, is_some, pos, slice_get}
 use Rattle.std.specs.Result.{result_ok, result_unwrap_or}
 use Rattle.cell_base.specs.declared.fault.CellFault.{CellFault}
 use Rattle.asc_grid.specs.Tokens.{Token}

@@ -1,4 +1,4 @@
-use Rattle.std.proofs.Common.{◌≡◌, ◌++◌, ◌-◌, ◌≤◌, length}
+use Rattle.std.proofs.Common.{◌≡◌, ◌++◌, ◌-◌, length}
 use Rattle.asc_grid.specs.Cells.{cells_of, offence_of_cells}
 use Rattle.asc_grid.specs.Inner.Cursor.{end_of, tokens_at}
 use Rattle.asc_grid.proofs.grid.read_cells.Given as goal

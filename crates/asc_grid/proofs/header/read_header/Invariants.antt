@@ -1,6 +1,4 @@
-use Rattle.std.proofs.Common.{◌≡◌, List, ◌++◌, length}
-use Rattle.asc_grid.specs.Header.{Pair, header_of, values_of}
-use Rattle.asc_grid.specs.Offence.{offence_of_pairs}
+use Rattle.std.proofs.Common.{◌≡◌, length}
 use Rattle.asc_grid.specs.Inner.Cursor.{end_of, tokens_at}
 use Rattle.asc_grid.specs.Inner.Values.{IsPositive}
 use Rattle.asc_grid.proofs.HeaderLemmas.{HasRead}

@@ -1,10 +1,9 @@
-use Rattle.std.proofs.Common.{◌≡◌, Some, None, true, false, refl, sym, ◌∙◌}
-use Rattle.std.specs.Prelude.{slice_get}
+use Rattle.std.proofs.Common.{◌≡◌, Some, None, refl, sym, ◌∙◌}
 use Rattle.asc_grid.specs.Keyword.{keyword_of}
 use Rattle.asc_grid.specs.Tokens.{Token}
 use Rattle.asc_grid.specs.Header.{Pair}
 use Rattle.asc_grid.specs.Inner.Cursor.{tokens_at}
-use Rattle.asc_grid.specs.Inner.Values.{has, next_pair}
+use Rattle.asc_grid.specs.Inner.Values.{next_pair}
 use Rattle.asc_grid.proofs.HeaderLemmas.{refuses_missing, refuses_repeated, refuses_value, takes_pair}
 use Rattle.asc_grid.proofs.header.read_pair.Goals as goal
 
