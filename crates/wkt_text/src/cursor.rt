@@ -34,7 +34,8 @@ impl<'a> Model for Cursor<'a> {
     ghost invariant = { λ c. length c.left.now < c.end };
 }
 
-fn is_blank(byte: u8) -> bool
+/// Whether a byte may stand between tokens: one of the bytes 9 to 13, or a space.
+pub fn is_blank(byte: u8) -> bool
     ensures { result ≡ is_blank byte }
 {
     matches!(byte, 9..=13 | b' ')

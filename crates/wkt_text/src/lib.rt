@@ -9,6 +9,7 @@ mod laws;
 mod read;
 mod write;
 
+pub use cursor::is_blank;
 pub use fault::{WktFault, WktKind};
 pub use geometry::{Geometry, Path, Polygons, Pt, Rings};
 pub use laws::{lists_have_no_bound, reads_what_is_written};

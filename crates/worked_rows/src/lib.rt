@@ -1,4 +1,4 @@
-//! Worked rows: numbers, cells and frames, components, and runs of the whole program over words and files in
+//! Worked rows: numbers, cells and frames, components, layers, and runs of the whole program over words and files in
 //! memory, with what each must give. No clause rules out that a call runs out of memory, so each row also
 //! shows that it doesn't where memory is ample.
 #![tactic(auto)]
@@ -7,6 +7,8 @@
 mod cells;
 #[cfg(test)]
 mod frames;
+#[cfg(test)]
+mod layers;
 #[cfg(test)]
 mod numbers;
 #[cfg(test)]

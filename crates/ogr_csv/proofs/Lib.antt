@@ -1,0 +1,4 @@
+pub mod ColumnLemmas
+pub mod BlankLemmas
+pub mod RecordLemmas
+pub mod FaultLemmas

@@ -1,0 +1,12 @@
+-- The text of rows. Source: OGR CSV; a row is what the crate csv writes by default.
+use Rattle.std.specs.Prelude.{ℕ, Bool, List, []}
+use Rattle.std.specs.List.{flat_map}
+use Rattle.csv.specs.Writing.{default_writer, row_text}
+
+-- the text of a row of these fields
+abbrev pub line_of : List (List ℕ) → List ℕ
+line_of fields = row_text default_writer fields
+
+-- one row after the other
+abbrev pub text_of_rows : List (List (List ℕ)) → List ℕ
+text_of_rows rows = flat_map line_of rows
