@@ -97,8 +97,8 @@ taken_first s xs (Some p) fields s2 ys (inr none) is =
     ∙ ap (λ rest. p.0 ∷ rest) (no_records default_config (length xs))
     ∙ ap (λ r. r ∷ []) (sym is.1)
     ∙ sym (ap (λ t. fields ∷ records_from default_config (length ys + 1) t ys) start
-      ∙ ap (λ zs. fields ∷ records_from default_config (length zs + 1) st.StartRecord zs) empty
-      ∙ ap (λ rest. fields ∷ rest) (no_records default_config 1))
+    ∙ ap (λ zs. fields ∷ records_from default_config (length zs + 1) st.StartRecord zs) empty
+    ∙ ap (λ rest. fields ∷ rest) (no_records default_config 1))
 
 first_of_known : (s : State) (xs : List ℕ) (fields : Record) (s2 : State) (ys : List ℕ) → NextIs (next_record default_config s [] [] xs) true fields s2 ys
     → records_from_state s (Some xs) ≡ fields ∷ records_from_state s2 (Some ys)
