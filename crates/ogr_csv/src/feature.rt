@@ -1,7 +1,8 @@
 // The feature of a record.
-ghost use Rattle.std.specs.Prelude.{◌≡◌, ◌≤◌, length, option_map};
+ghost use Rattle.std.specs.Prelude.{◌≡◌, ◌≤◌, IfOk, IfSome, length, option_map};
 ghost use Rattle.std.specs.List.{list_all, prefix_len};
 ghost use Rattle.csv.specs.Records.{fields_of};
+ghost use Rattle.wkt_text.specs.Geometry.{IsWritable};
 ghost use Rattle.wkt_text.specs.Tokens.{is_blank};
 ghost use Rattle.ogr_csv.specs.Attribute.{number_in, trimmed, value_of, without_last_blanks};
 ghost use Rattle.ogr_csv.specs.Inner.Read.{ReadsFeature, ReadsGeometry};
@@ -69,7 +70,8 @@ fn geometry_in(
     field: Option<&[u8]>,
     number: u64,
 ) -> Result<Option<Geometry>, LayerFault>
-    ensures { ReadsGeometry number (option_map (λ text. text.now) field.entry) result }
+    ensures answer { ReadsGeometry number (option_map (λ text. text.now) field.entry) result }
+    ensures writable { IfOk result (λ geometry. IfSome geometry IsWritable) }
 {
     let Some(text) = field else {
         return Ok(None);
@@ -105,7 +107,8 @@ pub(crate) fn feature_of(
     columns: Columns,
     number: u64,
 ) -> Result<Feature, LayerFault>
-    ensures { ReadsFeature columns number (fields_of fields.now) result }
+    ensures answer { ReadsFeature columns number (fields_of fields.now) result }
+    ensures writable { IfOk result (λ feature. IfSome feature.geometry IsWritable) }
 {
     let geometry = geometry_in(alloc, fields.get(columns.geometry), number)?;
     let attribute = columns.attribute.and_then(|column| fields.get(column));

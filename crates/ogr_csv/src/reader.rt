@@ -1,8 +1,9 @@
 // Reading a layer feature by feature.
-ghost use Rattle.std.specs.Prelude.{◌≡◌, IfOk, Some, option_map, true};
+ghost use Rattle.std.specs.Prelude.{◌≡◌, IfOk, IfSome, Some, option_map, true};
 ghost use Rattle.csv.specs.Reading.{source_of};
 ghost use Rattle.csv.specs.Records.{fields_of};
 ghost use Rattle.ogr_csv.specs.Inner.Left.{IsReading, TakesRecord, records_left};
+ghost use Rattle.wkt_text.specs.Geometry.{IsWritable};
 ghost use Rattle.ogr_csv.specs.Layer.{layer_of};
 ghost use Rattle.ogr_csv.specs.Next.{Opens, TakesNext};
 
@@ -91,7 +92,8 @@ impl<'a> LayerReader<'a> {
     /// The next feature; none exactly behind the last record. The first record that is refused gives its fault, and
     /// every further call the same fault again, also where it is want of memory.
     pub fn next(&mut self, alloc: Global) -> Result<Option<Feature>, LayerFault>
-        ensures { TakesNext self.old self.new result }
+        ensures answer { TakesNext self.old self.new result }
+        ensures writable { IfOk result (λ next. IfSome next (λ feature. IfSome feature.geometry IsWritable)) }
     {
         match self.stage {
             Stage::Reading => {}

@@ -1,4 +1,7 @@
 // Well-known text and layers. Each row is a text and what it gives, with `=` between them.
+ghost use Rattle.std.specs.Prelude.{IfSome};
+ghost use Rattle.wkt_text.specs.Geometry.{IsWritable};
+
 use ogr_csv::{Feature, LayerFault, LayerReader, RowText, RowsText};
 use std::alloc::Global;
 use std::test::Fail;
@@ -63,7 +66,9 @@ fn refuses_texts(rt: HostRuntime) -> Result<(), Fail> {
 }
 
 /// What a feature gives: its geometry's canonical spelling, a space, a bar and its value.
-fn spelled(alloc: Global, feature: &Feature) -> Result<String, Fail> {
+fn spelled(alloc: Global, feature: &Feature) -> Result<String, Fail>
+    requires { IfSome feature.now.geometry IsWritable }
+{
     let mut out = Vec::new(alloc);
     if let Some(geometry) = &feature.geometry {
         write_geometry(geometry, &mut out)?;
