@@ -120,7 +120,7 @@ read_true s (Some xs) (Some ys) fields s2 known is = first_of_known s xs fields 
 
 read_false : (s : State) (old new : Option (List ℕ)) (fields : Record) (s2 : State) → (xs : List ℕ) × (old ≡ Some xs) → ReadsNext default_config s old new false fields s2
     → records_from_state s old ≡ []
-read_false s None new fields s2 known is = cc known.1
+read_false s None new fields s2 known is = refl
 read_false s (Some xs) None fields s2 known is = absurd is
 read_false s (Some xs) (Some ys) fields s2 known is = none_of_known s xs (next_record default_config s [] [] xs) fields s2 ys refl is
 

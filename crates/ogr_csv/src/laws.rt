@@ -6,5 +6,7 @@ ghost use Rattle.ogr_csv.specs.Rows.{HasNoMark, text_of_rows};
 /// The features of the text of a header row and rows of as many fields are those of these rows, or the first refusal
 /// among them. The header's first field begins with no byte order mark.
 pub fn reads_what_is_written()
-    ensures { (field : Option (List ℕ)) (header : Record) (rows : List Record) → HasNoMark header → All (λ row. length row ≡ length header) rows → layer_of field (text_of_rows (header ∷ rows)) ≡ answers_in field (header ∷ rows) }
+    ensures { (field : Option (List ℕ)) (header : Record) (rows : List Record)
+        → HasNoMark header → All (λ row. length row ≡ length header) rows
+        → layer_of field (text_of_rows (header ∷ rows)) ≡ answers_in field (header ∷ rows) }
 {}

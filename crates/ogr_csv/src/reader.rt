@@ -25,7 +25,10 @@ enum Stage {
 // Reads the next record into `fields`, and says whether there is one.
 fn read_record(reader: &mut Reader<&[u8]>, fields: &mut ByteRecord) -> Result<bool, LayerFault>
     requires { IsReading reader.old (source_of (λ s. Some s.now) reader.old) }
-    ensures taken { TakesRecord (records_left reader.old (source_of (λ s. Some s.now) reader.old)) (records_left reader.new (source_of (λ s. Some s.now) reader.new)) (fields_of fields.new) result }
+    ensures taken { TakesRecord
+        (records_left reader.old (source_of (λ s. Some s.now) reader.old))
+        (records_left reader.new (source_of (λ s. Some s.now) reader.new))
+        (fields_of fields.new) result }
     ensures reading { IfOk result (λ found. found ≡ true → IsReading reader.new (source_of (λ s. Some s.now) reader.new)) }
 {
     let Ok(found) = reader.read_byte_record(fields) else {

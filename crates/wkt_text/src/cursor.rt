@@ -1,5 +1,5 @@
 // What is left of a text, token by token.
-ghost use Rattle.std.specs.Prelude.{◌≡◌, ◌+◌, ◌-◌, ◌<◌, ◌≤◌, ℕ, ◌∷◌, [], IfNone, IfSome, IsTrue, ◌↔◌, None, Some, drop, false, length, take, true};
+ghost use Rattle.std.specs.Prelude.{◌≡◌, ◌+◌, ◌<◌, ◌≤◌, ◌↔◌, IfNone, IfSome, IsTrue, [], drop, false, length, true};
 ghost use Rattle.std.specs.Bool.{OnFalse, OnTrue};
 ghost use Rattle.std.specs.Option.{is_some};
 ghost use Rattle.fixed_coord.specs.Number.{parts_of};
@@ -8,7 +8,7 @@ ghost use Rattle.wkt_text.specs.Grammar.{coordinate, empty_word, kind, no_third,
 ghost use Rattle.wkt_text.specs.Inner.Cursor.{HasFirstWord, HasSameTokens, Lacks, NoWord};
 ghost use Rattle.wkt_text.specs.Inner.Cursor.{Reads, StandsFirst, Takes, begins_with_blank};
 ghost use Rattle.wkt_text.specs.Parser.{closing, opening};
-ghost use Rattle.wkt_text.specs.Tokens.{Word, begins_with_word, first_offset, is_blank, is_letter, is_mark, tokens_of};
+ghost use Rattle.wkt_text.specs.Tokens.{begins_with_word, first_offset, is_blank, is_letter, is_mark, tokens_of};
 
 use crate::fault::{Refusal, WktKind};
 use crate::geometry::{Path, Pt};
