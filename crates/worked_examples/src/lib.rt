@@ -1,5 +1,5 @@
-//! Worked examples: numbers, cells and frames, components, and runs of the whole program over words and files in
-//! memory, with what each must give. No clause rules out that a call runs out of memory, so each example
+//! Worked examples: numbers, cells and frames, components, layers, and runs of the whole program over words and
+//! files in memory, with what each must give. No clause rules out that a call runs out of memory, so each example
 //! also shows that it doesn't where memory is ample.
 #![tactic(auto)]
 
@@ -7,6 +7,8 @@
 mod cells;
 #[cfg(test)]
 mod frames;
+#[cfg(test)]
+mod layers;
 #[cfg(test)]
 mod numbers;
 #[cfg(test)]

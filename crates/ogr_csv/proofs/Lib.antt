@@ -1,0 +1,6 @@
+pub mod ColumnLemmas
+pub mod BlankLemmas
+pub mod RecordLemmas
+pub mod FaultLemmas
+pub mod RowLemmas
+pub mod LayerLemmas

@@ -1,0 +1,5 @@
+pub mod Attribute
+pub mod Layer
+pub mod Rows
+pub mod Next
+pub mod Inner

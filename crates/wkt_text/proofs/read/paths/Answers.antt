@@ -1,0 +1,14 @@
+use Rattle.wkt_text.specs.Grammar.{path}
+use Rattle.wkt_text.proofs.ListedLemmas.{path_some}
+use Rattle.wkt_text.proofs.LoopLemmas.{fewer, goes_on, none_yet}
+use Rattle.wkt_text.proofs.read.paths.Goals as goal
+
+pub members-init : goal.members-init
+members-init c = rw c.new-paths.ensures (none_yet path c.args.cursor.now)
+
+pub members-preserved : goal.members-preserved
+members-preserved c =
+    rw c.in_ok-push.ensures.ok (goes_on path_some c.members.invariant c.in_ok-path.ensures c.if-not-take_mark.ensures.taken c.if-not-take_mark.ensures.same_end)
+
+pub members-smaller : goal.members-smaller
+members-smaller c = fewer c.take_mark.new.self.tokens path_some c.in_ok-path.ensures c.if-not-take_mark.ensures.taken
