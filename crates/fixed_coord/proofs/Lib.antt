@@ -8,3 +8,4 @@ pub mod WriteLemmas
 pub mod ShortestLemmas
 mod NumberExamples
 pub mod FewestLemmas
+pub mod ShortLemmas

@@ -1,15 +1,16 @@
 // Reading number texts.
-ghost use Rattle.std.specs.Prelude.{◌≡◌, ◌+◌, ◌/◌, ◌≤◌, ◌<◌, ◌^◌, ◌↔◌, IfSome, IsSome, Ok};
-ghost use Rattle.std.specs.Str.Parse.{digits_value};
-ghost use Rattle.fixed_coord.specs.Number.{behind_sign};
+ghost use Rattle.std.specs.Prelude.{◌≡◌, ◌+◌, ◌/◌, ◌≤◌, ◌<◌, ◌^◌, ◌↔◌, IfSome, IsSome, Ok, length};
+ghost use Rattle.std.specs.Str.Parse.{AllDigits, digits_value};
+ghost use Rattle.fixed_coord.specs.Number.{behind_sign, fraction_of};
 ghost use Rattle.fixed_coord.specs.Scaled.{capped, scaled_of};
 ghost use Rattle.fixed_coord.specs.Inner.Cut.{cap};
+ghost use Rattle.fixed_coord.specs.Inner.Spelled.{IsSpelled, parts_in, rounded_units};
 ghost use Rattle.fixed_coord.specs.Whole.{IsShort, whole_of};
 
 use crate::cut::cut_at_point;
 use crate::fault::NumberFault;
 use crate::limits::LARGEST;
-use crate::parts::{sign, split};
+use crate::parts::{Parts, sign, split};
 
 // Each number of so many digits fits `i64`.
 const SHORT: usize = 18;
@@ -34,6 +35,35 @@ fn tenth(tenths: u128) -> u128
     }
 }
 
+// The number that at most ten digits spell.
+fn few_digits(digits: &[u8]) -> u64
+    requires digits { AllDigits 10 digits.now }
+    requires few { length digits.now ≤ 10 }
+    ensures { result ≡ digits_value 10 digits.now }
+{
+    let mut number = 0u64;
+    for digit in digits {
+        number = number * 10 + u64::from(*digit - b'0');
+    }
+    number
+}
+
+// The size of a number of few digits and without an exponent, in units of 10^-places: the commonest one, for which no
+// wide number is needed.
+fn short_units(number: Parts<'_>, places: u32) -> Option<u64>
+    requires digits { IsSpelled (parts_in number) }
+    requires places { places ≤ 10 }
+    ensures { IfSome result (λ n. n ≡ rounded_units places (fraction_of (parts_in number.entry))) }
+{
+    let decimals = number.fraction.len();
+    if !number.power.is_empty() || number.whole.len() > 8 || decimals > places as usize {
+        return None;
+    }
+    let whole = few_digits(number.whole) * 10u64.pow(places);
+    let behind = few_digits(number.fraction) * 10u64.pow(places - decimals as u32);
+    Some(whole + behind)
+}
+
 /// The number of units of 10^-places that a number text stands for, rounded half away from zero, and capped at
 /// 10^30 in size. The only fault is `NotNumber`, where the text isn't a number text.
 pub fn scaled(text: &[u8], places: u32) -> Result<i128, NumberFault>
@@ -43,6 +73,9 @@ pub fn scaled(text: &[u8], places: u32) -> Result<i128, NumberFault>
     let Some(number) = split(text) else {
         return Err(NumberFault::NotNumber);
     };
+    if let Some(size) = short_units(number, places) {
+        return Ok(signed(number.negative, u128::from(size)));
+    }
     let cut = cut_at_point(number, places + 1);
     Ok(signed(number.negative, tenth(cut.front)))
 }

@@ -182,3 +182,21 @@ fn writes_rows(rt: HostRuntime) -> Result<(), Fail> {
     assert!(rt; many.as_slice() == format!(in rt.alloc(); "{want}alone\n")?.as_bytes());
     Ok(())
 }
+
+#[test]
+fn a_text_of_rows_gets_long(rt: HostRuntime) -> Result<(), Fail> {
+    let field = vec![in rt.alloc(); 65u8; 999]?;
+    let mut rows = RowsText::new(rt.alloc());
+    let mut count = 0u32;
+    for _ in 0..2_000u32 {
+        if rows.is_long() {
+            break;
+        }
+        rows.add(&[field.as_slice()])?;
+        count = count.wrapping_add(1);
+    }
+    let text = rows.into_text()?;
+    assert!(rt; text.len() == count as usize * 1_000);
+    assert!(rt; 1_048 < count && count < 1_060);
+    Ok(())
+}

@@ -1,6 +1,8 @@
 -- The parts of a number text as the code holds them.
 use Rattle.std.specs.Str.Parse.{AllDigits}
-use Rattle.fixed_coord.specs.Number.{Parts}
+use Rattle.std.specs.Prelude.{ℕ, ◌*◌, ◌^◌}
+use Rattle.fixed_coord.specs.Number.{Fraction, Parts}
+use Rattle.fixed_coord.specs.Round.{round_half_up}
 use Rattle.fixed_coord.specs.declared.parts.Parts.{Parts as Pieces}
 
 -- the parts that these pieces of a text are
@@ -19,3 +21,7 @@ pub record IsSpelled (p : Parts) : Type 0 where
   pub before_point : AllDigits 10 p.whole
   pub behind_point : AllDigits 10 p.fraction
   pub exponent : AllDigits 10 p.power
+
+-- the size of a fraction in units of 10^-places, rounded
+abbrev pub rounded_units : ℕ → Fraction → ℕ
+rounded_units places f = round_half_up (f.above * 10 ^ places) f.below

@@ -7,7 +7,7 @@ use Rattle.fixed_coord.proofs.read.scaled.Goals as goal
 
 pub returns : goal.returns
 returns c =
-    let same : to_z w128 (of_z w128 c.signed.result) ≡ c.signed.result = omega (arith, ints) in
+    let same : to_z w128 (of_z w128 c.signed-2.result) ≡ c.signed-2.result = omega (arith, ints) in
     ap Ok same
-    ∙ scaled_is c.args.text.now _ c.args.places c.cut_at_point-cut.result.front c.tenth.result c.signed.result c.in-Some.ensures.value (pow10_pos _) c.cut_at_point-cut.ensures.in_front
-    c.tenth.ensures c.signed.ensures
+    ∙ scaled_is c.args.text.now _ c.args.places c.cut_at_point-cut.result.front c.tenth.result c.signed-2.result c.in-Some.ensures.value (pow10_pos _) c.cut_at_point-cut.ensures.in_front
+    c.tenth.ensures c.signed-2.ensures
