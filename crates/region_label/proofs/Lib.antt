@@ -14,6 +14,7 @@ pub mod TableLemmas
 pub mod WalkOfLemmas
 pub mod ReadLemmas
 pub mod SizesLemmas
+pub mod OneLemmas
 pub mod UnitsLemmas
 pub mod ComponentLemmas
 pub mod ComponentExamples

@@ -252,6 +252,7 @@ table_of_regions connectivity cells valid rows lists whole =
             let same = same_run rows.runs.items whole.order.order has.index i has.run run (first_cell run) has.at at has.cell (refl, omega arith, (whole.order.inside i run at).1) in
             subst (λ (j : ℕ). IsOf lists.components.items j k) same has.is,
       );
+      known = λ i k is. omega (arith, whole.filled.known i k is, length_lists connectivity rows lists whole.filled, length-map table.lists (λ list. first_cell (run_at table (slice_index list 0))));
       count = sym (length-map table.lists (λ list. first_cell (run_at table (slice_index list 0))));
       list = λ k list at. is_list_of (contacts connectivity rows) lists k list (list_of connectivity rows lists k list whole.filled at).listed;
     }

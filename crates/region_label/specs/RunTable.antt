@@ -1,11 +1,11 @@
 -- A table of the runs of a grid's cells, and of the components that they are in.
-use Rattle.std.specs.Prelude.{◌≡◌, ℕ, ◌-◌, ◌<◌, ◌==◌, ◌&&◌, ◌↔◌, ℤ, Bool, List, [], Option, Some, None, map, length, nat_le, nat_lt, option_and_then, position, slice_get, slice_index, sum_by, unwrap_or}
+use Rattle.std.specs.Prelude.{◌≡◌, ℕ, ◌-◌, ◌<◌, ◌≤◌, ◌==◌, ◌&&◌, ◌↔◌, ℤ, Bool, List, [], Option, Some, None, map, length, nat_le, nat_lt, option_and_then, position, slice_get, slice_index, sum_by, unwrap_or}
 use Rattle.std.specs.List.{range_with_len}
-use Rattle.cell_base.specs.Raster.{Place, Raster, AreAligned, value_at}
+use Rattle.cell_base.specs.Raster.{Place, Raster, AreAligned, most_cells, value_at}
 use Rattle.region_label.specs.Component.{HasValue}
 use Rattle.region_label.specs.Count.{IsListOf}
 use Rattle.region_label.specs.Labelling.{RegionTable, IsInRegion, IsLabelling}
-use Rattle.region_label.specs.Run.{Run, AreRuns, first_cell}
+use Rattle.region_label.specs.Run.{Run, AreRuns, IsRunBefore, first_cell}
 
 -- the runs by row and column, with each the units of its cells' value, and its component by the last fill, if there
 -- was one; and by component its runs, as indices into the list of runs, in the order in which they are handed out
@@ -40,6 +40,7 @@ pub record IsTableOfRegions (regions : RegionTable) (table : TableOfRuns) : Type
   pub numbered : length table.components ≡ length table.runs
   pub number : (i k : ℕ) (run : Run) → slice_get table.runs i ≡ Some run
       → (slice_get table.components i ≡ Some (Some k)) ↔ IsInRegion regions k (first_cell run)
+  pub known : (i k : ℕ) → slice_get table.components i ≡ Some (Some k) → k < length regions.firsts
   pub count : length table.lists ≡ length regions.firsts
   pub list : (k : ℕ) (list : List ℕ) → slice_get table.lists k ≡ Some list
       → IsListOf (λ i. slice_get table.components i ≡ Some (Some k)) list
@@ -87,3 +88,11 @@ pub record KeepsRuns (old new : TableOfRuns) : Type 0 where
 -- the runs of a row begin at this index
 abbrev pub BeginsRow : TableOfRuns → ℕ → ℕ → Type 0
 BeginsRow table row start = (i : ℕ) (run : Run) → slice_get table.runs i ≡ Some run → (i < start) ↔ (run.row < row)
+
+-- the runs of a table lie inside the grid, in order
+pub record AreInside (table : TableOfRuns) : Type 0 where
+  pub narrow : table.ncols ≤ most_cells
+  pub inside : (i : ℕ) (run : Run) → slice_get table.runs i ≡ Some run
+      → (run.row < table.nrows) × (run.from < run.to) × (run.to ≤ table.ncols)
+  pub order : (i j : ℕ) (a b : Run) → i < j → slice_get table.runs i ≡ Some a → slice_get table.runs j ≡ Some b
+      → IsRunBefore a b

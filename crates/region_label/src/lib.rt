@@ -2,6 +2,7 @@
 #![tactic(auto)]
 
 mod labelling;
+mod laws;
 mod lists;
 mod regions;
 mod rows;
@@ -10,6 +11,7 @@ mod walk;
 
 pub use cell_base::Run;
 pub use labelling::label;
+pub use laws::labelling_is_one;
 pub use regions::Regions;
 pub use table::RunTable;
 pub use walk::RunWalk;

@@ -1,7 +1,7 @@
 ghost use Rattle.std.specs.Prelude.{◌≡◌, ◌<◌, ◌≤◌, [], ℤ, Bool, Some, IfOk, length, slice_get};
 ghost use Rattle.cell_base.specs.Raster.{Raster};
 ghost use Rattle.region_label.specs.Run.{first_cell};
-ghost use Rattle.region_label.specs.RunTable.{BeginsRow, IsFilled, IsTableOfCells, KeepsRuns, units_grid};
+ghost use Rattle.region_label.specs.RunTable.{AreInside, BeginsRow, IsFilled, IsTableOfCells, KeepsRuns, units_grid};
 ghost use Rattle.region_label.specs.RunTable.{number_at, regions_of, runs_of};
 
 use crate::lists::RunLists;
@@ -91,7 +91,8 @@ impl RunTable {
 
     /// All runs by row and column.
     pub fn runs(&self) -> &[Run]
-        ensures { result.now ≡ self.now.runs }
+        ensures value { result.now ≡ self.now.runs }
+        ensures inside { AreInside self.now }
     {
         &self.rows.runs
     }

@@ -1,4 +1,4 @@
-//! Worked rows: numbers, cells and frames, components, and runs of the whole program over words and files in
+//! Worked rows: numbers, cells and frames, runs of cells and components, and runs of the whole program over words and files in
 //! memory, with what each must give. No clause rules out that a call runs out of memory, so each row also
 //! shows that it doesn't where memory is ample.
 #![tactic(auto)]
@@ -13,5 +13,7 @@ mod numbers;
 mod outside;
 #[cfg(test)]
 mod regions;
+#[cfg(test)]
+mod run_table;
 #[cfg(test)]
 mod runs;
