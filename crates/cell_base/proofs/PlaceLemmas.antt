@@ -1,4 +1,4 @@
-use Rattle.std.proofs.Common.{◌≡◌, ℕ, zero, suc, ◌<◌, inl, inr, List, [], Some, length, take, drop, get_or, ap, sym, ◌∙◌, arith}
+use Rattle.std.proofs.Common.{◌≡◌, ℕ, zero, suc, ◌<◌, inl, inr, List, [], ◌∷◌, Some, length, take, drop, get_or, refl, ap, sym, ◌∙◌, arith}
 use Rattle.std.specs.Prelude.{All, slice_get, unwrap_or}
 use Rattle.std.proofs.lemmas.Bool.{cases_lt}
 use Rattle.std.proofs.lemmas.List.{get_or_default, get_or_past, same_lists}
@@ -45,3 +45,18 @@ same_raster {T} a b aligned same =
     same_elements (get_or b.rows k d) (get_or a.rows k d) (aligned.second.width k d within ∙ aligned.ncols ∙ sym (aligned.first.width k d in_a)) (λ j. row_at b k j d within ∙ same (k, j) ∙ sym (row_at a k j d in_a))) in
     let make : ℕ → ℕ → List (List T) → Raster T = λ ncols nrows rows. record { ncols = ncols; nrows = nrows; rows = rows } in
     ap (λ (n : ℕ). make n b.nrows b.rows) aligned.ncols ∙ ap (λ (n : ℕ). make a.ncols n b.rows) aligned.nrows ∙ ap (make a.ncols a.nrows) rows
+
+-- something stands at each index below the length
+pub element_at : {A : Type 0} (xs : List A) (k : ℕ) → k < length xs → (x : A) × (slice_get xs k ≡ Some x)
+element_at [] k within = absurd (omega arith)
+element_at (x ∷ xs) zero within = (x, refl)
+element_at (x ∷ xs) (suc k) within = element_at xs k (omega (arith, within))
+
+-- a place inside has a value
+pub value_inside : {T : Type 0} (grid : Raster T) (p : Place) → IsRaster grid → p.0 < grid.nrows → p.1 < grid.ncols → (v : T) × (value_at grid p ≡ Some v)
+value_inside grid p shape in_row in_col =
+    let within : p.0 < length grid.rows = omega (arith, in_row, shape.height) in
+    let width : length (get_or grid.rows p.0 []) ≡ grid.ncols = shape.width p.0 [] within in
+    let row : value_at grid p ≡ slice_get (get_or grid.rows p.0 []) p.1 = ap (λ row. slice_get row p.1) (unwrap_or-slice_get grid.rows p.0 []) in
+    let value = element_at (get_or grid.rows p.0 []) p.1 (omega (arith, width, in_col)) in
+    (value.0, row ∙ value.1)

@@ -7,6 +7,7 @@ mod grid;
 mod kind;
 mod mask;
 mod micro;
+mod run;
 mod steps;
 mod whole;
 
@@ -16,4 +17,5 @@ pub use grid::Grid;
 pub use kind::CellKind;
 pub use mask::Mask;
 pub use micro::Micro;
+pub use run::Run;
 pub use steps::Steps;

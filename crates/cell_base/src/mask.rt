@@ -1,4 +1,4 @@
-ghost use Rattle.std.specs.Prelude.{◌≡◌, ◌≢◌, ◌*◌, ◌<◌, ◌≤◌, ◌↔◌, Some, replicate, IfOk, IsTrue};
+ghost use Rattle.std.specs.Prelude.{◌≡◌, ◌≢◌, ◌*◌, ◌<◌, ◌≤◌, ◌↔◌, Some, replicate, IfOk, IsTrue, length, slice_get};
 ghost use Rattle.cell_base.specs.Raster.{IsRaster, Place, SetsPlace, most_cells, raster_of, value_at};
 ghost use Rattle.cell_base.specs.Valid.{IsMarked, IsValid};
 
@@ -48,6 +48,15 @@ impl Mask {
         ensures shape { IsRaster self.now }
     {
         self.cells.nrows()
+    }
+
+    /// The truth values of a row, from the left.
+    pub fn row(&self, row: u32) -> &[bool]
+        requires { row < self.now.nrows }
+        ensures cells { slice_get self.now.rows row ≡ Some result.now }
+        ensures width { length result.now ≡ self.now.ncols }
+    {
+        self.cells.row(row)
     }
 
     /// Whether a cell is true.

@@ -16,7 +16,7 @@ component_itself connectivity cells valid a marked = joined_itself connectivity 
     refl_value = cc
 
 -- a walk between the same cells under another name of their value
-same_value : {T : Type 0} (connectivity : Bool) (cells : Raster T) (valid : Raster Bool) (v w : Option T) (a b : Place) → v ≡ w → IsJoined connectivity (HasValue cells valid v) a b → IsJoined connectivity (HasValue cells valid w) a b
+pub same_value : {T : Type 0} (connectivity : Bool) (cells : Raster T) (valid : Raster Bool) (v w : Option T) (a b : Place) → v ≡ w → IsJoined connectivity (HasValue cells valid v) a b → IsJoined connectivity (HasValue cells valid w) a b
 same_value {T} connectivity cells valid v w a b same joined = subst (λ (u : Option T). IsJoined connectivity (HasValue cells valid u) a b) same joined
 
 pub component_sym : {T : Type 0} (connectivity : Bool) (cells : Raster T) (valid : Raster Bool) (a b : Place) → InComponent connectivity cells valid a b → InComponent connectivity cells valid b a

@@ -21,7 +21,7 @@ kept_member ys k x z within at_k other member =
     ]
 
 -- a list without repeats is no longer than one that has all its members
-no_longer : {A : Type 0} (xs ys : List A) → AllPairs (λ a b. a ≢ b) xs → ((x : A) → Contains xs x → Contains ys x) → length xs ≤ length ys
+pub no_longer : {A : Type 0} (xs ys : List A) → AllPairs (λ a b. a ≢ b) xs → ((x : A) → Contains xs x → Contains ys x) → length xs ≤ length ys
 no_longer [] ys once within = omega arith
 no_longer (x ∷ xs) ys once within =
     let at = within x (contains_here x xs) in

@@ -1,220 +1,173 @@
-use Rattle.std.proofs.Common.{◌≡◌, ℕ, ◌+◌, ◌<◌, ◌≤◌, ◌⊎◌, inl, inr, Bool, List, [], ◌∷◌, ◌++◌, Option, Some, None, length-append, refl, ap, sym, ◌∙◌, subst, arith}
-use Rattle.std.specs.Prelude.{Contains}
-use Rattle.std.proofs.lemmas.List.Elements.{Contains-append_left, Contains-push, Contains-push_cases}
-use Rattle.cell_base.specs.Raster.{Place, Raster, IsInside, SetsPlace, value_at}
-use Rattle.cell_base.specs.Steps.{IsStep, IsNeighbour, step_count}
-use Rattle.cell_base.proofs.StepsLemmas.{neighbour_is_step, same_neighbour, step_is_neighbour}
-use Rattle.std.proofs.lemmas.Bool.{cases_lt}
-use Rattle.region_label.specs.Component.{HasValue}
-use Rattle.cell_base.specs.Walk.{IsWalk, StepsInto, IsJoined}
-use Rattle.cell_base.proofs.WalkLemmas.{joined_itself, joined_more}
-use Rattle.region_label.specs.Inner.Fill.{Numbers, AreOfOneSize, AreFree, IsNumbered, SpreadsNumbers, FillsNumbers, free_count}
-use Rattle.cell_base.proofs.OrderLemmas.{same_or_other}
-use Rattle.region_label.proofs.FreeLemmas.{count_set}
+-- The fill of one component.
+use Rattle.std.proofs.Common.{◌≡◌, ◌≢◌, ℕ, ◌+◌, ◌<◌, ◌≤◌, inl, inr, Bool, List, [], ◌∷◌, ◌++◌, Option, Some, None, length, length-set, set, get_or, refl, ap, sym, ◌∙◌, subst, arith}
+use Rattle.std.specs.Prelude.{AllPairs, Contains, slice_get}
+use Rattle.std.specs.List.{range_with_len}
+use Rattle.std.proofs.lemmas.Bool.{cases_eq, cases_lt}
+use Rattle.std.proofs.lemmas.Grind.{common_steps}
+use Rattle.std.proofs.lemmas.List.FromFn.{get_or-range_with_len, length-range_with_len}
+use Rattle.std.proofs.lemmas.Option.{gets, same_Some, slice_get-get_or, slice_get_within}
+use Rattle.region_label.specs.Inner.Lists.{AreJoined, Fills, IsFilling, IsFree, IsLinked, IsLinkedToItself, IsNumbered, Joins, contacts}
+use Rattle.region_label.specs.declared.rows.RowRuns.{RowRuns}
+use Rattle.region_label.specs.declared.lists.RunLists.{RunLists}
+use Rattle.region_label.proofs.ListLemmas.{at_from_contains, contains_from_at, slice_get-set_other, slice_get-set_same}
+use Rattle.region_label.proofs.CountLaws.{no_longer}
+use Rattle.region_label.proofs.ListsLemmas.{last_in, not_last}
 
--- nothing was done
-pub spreads_none : (may : Place → Type 0) (k : ℕ) (numbers : Numbers) (stack : List Place) → SpreadsNumbers may k numbers numbers stack stack
-spreads_none may k numbers stack = record {
-  cols = refl;
-  rows = refl;
-  kept = λ p j was. was;
-  fresh = λ p j now. inl now;
-  stack_kept = λ p h. h;
-  stack_fresh = λ p h. inl h;
-  free = omega arith;
-  less = omega arith;
+-- a list of which so many runs have been looked at, and the next is this
+pub record IsUnderWay (touch : ℕ → ℕ → Type 0) (start number : ℕ) (old new : RunLists) (last at done : ℕ) : Type 0 where
+  pub list : List ℕ
+  pub filling : IsFilling touch start number old.components.items new.components.items old.links.items new.links.items list last
+  pub at_done : slice_get list done ≡ Some at
+  pub closed : (m i j : ℕ) → m < done → slice_get list m ≡ Some i → touch i j → IsNumbered new.components.items j
+  pub components : length new.components.items ≡ length old.components.items
+  pub links : length new.links.items ≡ length old.links.items
+  pub firsts : new.firsts ≡ old.firsts
+  pub count : new.count ≡ old.count
+
+only_start : (start i : ℕ) → Contains (start ∷ []) i → i ≡ start
+only_start start i member =
+    let first : member.0 ≡ 0 = omega (arith, member.1) in
+    sym (member.2) ∙ ap (λ k. get_or (start ∷ []) k i) first
+
+linked_first : (links : List ℕ) (start : ℕ) → slice_get links start ≡ Some start → IsLinked links (start ∷ []) start start
+linked_first links start itself = record {
+  first = refl;
+  once = λ i j d less within. absurd (omega (arith, less, within));
+  next = λ m i j at_i at_j. absurd (omega (arith, slice_get_within (start ∷ []) (m + 1) j at_j));
+  last_at = λ m end.
+      let first : m ≡ 0 = omega (arith, end) in
+      ap (slice_get (start ∷ [])) first;
+  ends = itself;
 }
 
-number_kept : (old new : Numbers) (at : Place) (k : ℕ) → SetsPlace old new at (Some k) → value_at old at ≡ Some None → (p : Place) (j : ℕ) → value_at old p ≡ Some (Some j) → value_at new p ≡ Some (Some j)
-number_kept old new at k sets free p j was = elim (same_or_other p at) [
-  | inl same ↦
-      let twice : Some (Some j) ≡ Some None = sym was ∙ ap (value_at old) same ∙ free in
-      absurd (cc)
-  | inr other ↦ sets.others p other ∙ was
-]
-
--- one cell got the number and was put on the stack
-pub spreads_one : (may : Place → Type 0) (k : ℕ) (old new : Numbers) (stack : List Place) (at : Place) → SetsPlace old new at (Some k) → IsInside old at → value_at old at ≡ Some None → may at → SpreadsNumbers may k old new stack (stack ++ at ∷ [])
-spreads_one may k old new stack at sets inside free is = record {
-  cols = sets.ncols;
-  rows = sets.nrows;
-  kept = number_kept old new at k sets free;
-  fresh = λ p j now. elim (same_or_other p at) [
-    | inl same ↦
-        let number : Some (Some j) ≡ Some (Some k) = sym now ∙ ap (value_at new) same ∙ sets.set in
-        let is_k : j ≡ k = cc in
-        inr (is_k, rw same is, rw same (Contains-push stack at))
-    | inr other ↦ inl (sym (sets.others p other) ∙ now)
-  ];
-  stack_kept = λ p h. Contains-append_left stack (at ∷ []) p h;
-  stack_fresh = λ p h. elim (Contains-push_cases stack at p h) [
-    | inl old ↦ inl old
-    | inr same ↦ inr (rw (← same) sets.set, rw (← same) is)
-  ];
-  free = omega (arith, count_set old new at k sets inside free);
-  less = omega (arith, length-append stack (at ∷ []), count_set old new at k sets inside free);
-}
-
--- one spread after another
-pub spreads_then : (may : Place → Type 0) (k : ℕ) (l m n : Numbers) (s t u : List Place) → SpreadsNumbers may k l m s t → SpreadsNumbers may k m n t u → SpreadsNumbers may k l n s u
-spreads_then may k l m n s t u first second = record {
-  cols = second.cols ∙ first.cols;
-  rows = second.rows ∙ first.rows;
-  kept = λ p j was. second.kept p j (first.kept p j was);
-  fresh = λ p j now. elim (second.fresh p j now) [
-    | inl before ↦ elim (first.fresh p j before) [ inl old ↦ inl old | inr new ↦ inr (new.0, new.1, second.stack_kept p new.2) ]
-    | inr new ↦ inr new
-  ];
-  stack_kept = λ p h. second.stack_kept p (first.stack_kept p h);
-  stack_fresh = λ p h. elim (second.stack_fresh p h) [
-    | inl before ↦ elim (first.stack_fresh p before) [ inl old ↦ inl old | inr new ↦ inr (second.kept p k new.0, new.1) ]
-    | inr new ↦ inr new
-  ];
-  free = omega (arith, first.free, second.free);
-  less = omega (arith, first.less, second.less);
-}
-
--- a spread of more kinds
-pub spreads_wider : (may more : Place → Type 0) (k : ℕ) (m n : Numbers) (s t : List Place) → ((p : Place) → may p → more p) → SpreadsNumbers may k m n s t → SpreadsNumbers more k m n s t
-spreads_wider may more k m n s t wider spread = record {
-  cols = spread.cols;
-  rows = spread.rows;
-  kept = spread.kept;
-  fresh = λ p j now. elim (spread.fresh p j now) [ inl old ↦ inl old | inr new ↦ inr (new.0, wider p new.1, new.2) ];
-  stack_kept = spread.stack_kept;
-  stack_fresh = λ p h. elim (spread.stack_fresh p h) [ inl old ↦ inl old | inr new ↦ inr (new.0, wider p new.1) ];
-  free = spread.free;
-  less = spread.less;
-}
-
--- the numbers that were given are those of joined cells, and a cell that isn't in the stack has all its steps numbered
-pub record IsFilling (connectivity : Bool) (set inside : Place → Type 0) (start : Place) (k : ℕ) (base numbers : Numbers) (stack : List Place) : Type 0 where
-  pub cols : numbers.ncols ≡ base.ncols
-  pub rows : numbers.nrows ≡ base.nrows
-  pub kept : (p : Place) (j : ℕ) → value_at base p ≡ Some (Some j) → value_at numbers p ≡ Some (Some j)
-  pub fresh : (p : Place) (j : ℕ) → value_at numbers p ≡ Some (Some j) → (value_at base p ≡ Some (Some j)) ⊎ ((j ≡ k) × IsJoined connectivity set start p)
-  pub started : value_at numbers start ≡ Some (Some k)
-  pub stacked : (p : Place) → Contains stack p → inside p × IsJoined connectivity set start p
-  pub closed : (p : Place) → value_at numbers p ≡ Some (Some k) → IsJoined connectivity set start p → Contains stack p ⊎ ((b : Place) → IsStep connectivity p b → inside b → set b → IsNumbered numbers b)
-  pub less : free_count numbers + 1 ≤ free_count base
-
-not_in_none : (p : Place) → Contains [] p → ⊥
-not_in_none p in_none = omega (arith, in_none.1)
-
--- the start alone has the number
-pub fills_first : (connectivity : Bool) (set inside : Place → Type 0) (start : Place) (k : ℕ) (base numbers : Numbers) (stack : List Place) → AreFree (IsJoined connectivity set start) base → inside start → set start → SpreadsNumbers (λ p. (p ≡ start) × set p) k base numbers [] stack → IsNumbered numbers start → IsFilling connectivity set inside start k base numbers stack
-fills_first connectivity set inside start k base numbers stack free in_frame in_set spread numbered =
-    let itself : IsJoined connectivity set start start = joined_itself connectivity set start in_set in
-    let new : (numbered.0 ≡ k) × ((start ≡ start) × set start) × Contains stack start = elim (spread.fresh start numbered.0 numbered.1) [ inl old ↦ absurd (free start itself numbered.0 old) | inr new ↦ new ] in
+-- the first run alone
+pub filling_first : (touch : ℕ → ℕ → Type 0) (start number : ℕ) (before : List (Option ℕ)) (links : List ℕ) → ((i : ℕ) → IsFree before i → slice_get links i ≡ Some i) → IsFree before start → IsFilling touch start number before (set before start (Some number)) links links (start ∷ []) start
+filling_first touch start number before links free_links free =
+    let within = slice_get_within before start None free in
     record {
-      cols = spread.cols;
-      rows = spread.rows;
-      kept = spread.kept;
-      fresh = λ p j now. elim (spread.fresh p j now) [ inl old ↦ inl old | inr new ↦ inr (new.0, rw new.1.0 itself) ];
-      started = rw (← new.0) numbered.1;
-      stacked = λ p h. elim (spread.stack_fresh p h) [ inl old ↦ absurd (not_in_none p old) | inr new ↦ (rw new.1.0 in_frame, rw new.1.0 itself) ];
-      closed = λ p is joined. elim (spread.fresh p k is) [ inl old ↦ absurd (free p joined k old) | inr new ↦ inl new.2 ];
-      less =
-          let in_stack = new.2 in
-          omega (arith, spread.less, in_stack.1);
+      linked = linked_first links start (free_links start free);
+      numbered = λ i member. ap (slice_get (set before start (Some number))) (only_start start i member) ∙ slice_get-set_same before start (Some number) within;
+      free = λ i member. ap (slice_get before) (only_start start i member) ∙ free;
+      reached = λ i member. ([], sym (only_start start i member));
+      kept = λ i. elim (cases_eq i start) [
+        | inl same ↦ inl (subst (λ (j : ℕ). Contains (start ∷ []) j) (sym same) (0, omega arith, refl))
+        | inr other ↦ inr (slice_get-set_other before start i (Some number) other, refl)
+      ];
     }
 
--- one turn: a cell is taken from the stack, and its steps get the number
-pub fills_on : (connectivity : Bool) (set inside : Place → Type 0) (start : Place) (k : ℕ) (base numbers after : Numbers) (stack rest stacked : List Place) (at : Place) → IsFilling connectivity set inside start k base numbers stack → stack ≡ rest ++ at ∷ [] → SpreadsNumbers (λ p. IsStep connectivity at p × set p × inside p) k numbers after rest stacked → ((p : Place) → IsStep connectivity at p → inside p → set p → IsNumbered after p) → IsFilling connectivity set inside start k base after stacked
-fills_on connectivity set inside start k base numbers after stack rest stacked at filling taken spread all =
-    let in_stack : Contains stack at = rw taken (Contains-push rest at) in
-    let reached : IsJoined connectivity set start at = (filling.stacked at in_stack).1 in
-    let reaches : (p : Place) → IsStep connectivity at p × set p × inside p → IsJoined connectivity set start p = λ p may. joined_more connectivity set start at p reached may.0 may.1 in
+pub under_way_first : (touch : ℕ → ℕ → Type 0) (start number : ℕ) (old new : RunLists) → IsLinkedToItself old → IsFree old.components.items start → new.components.items ≡ set old.components.items start (Some number) → new.links ≡ old.links → new.firsts ≡ old.firsts → new.count ≡ old.count → IsUnderWay touch start number old new start start 0
+under_way_first touch start number old new free_links free components links firsts count = record {
+  list = start ∷ [];
+  filling = rw (components, links) (filling_first touch start number old.components.items old.links.items free_links free);
+  at_done = refl;
+  closed = λ m i j less at touches. absurd (omega arith);
+  components = ap length components ∙ length-set old.components.items start (Some number);
+  links = ap (λ l. length l.items) links;
+  firsts = firsts;
+  count = count;
+}
+
+kept_append : (list more : List ℕ) (k i : ℕ) → slice_get list k ≡ Some i → slice_get (list ++ more) k ≡ Some i
+kept_append list more k i at =
+    let within = slice_get_within list k i at in
+    let same : slice_get (list ++ more) k ≡ slice_get list k = grind (arith, common_steps, gets) in
+    same ∙ at
+
+-- the contacts of one more run have joined; another comes next
+pub under_way_on : (touch : ℕ → ℕ → Type 0) (start number : ℕ) (old now new : RunLists) (last new_last at done next : ℕ) → IsLinkedToItself old → IsUnderWay touch start number old now last at done → Joins touch at number now new last new_last → ((j : ℕ) → touch at j → IsNumbered new.components.items j) → at ≢ new_last → slice_get new.links.items at ≡ Some next → IsUnderWay touch start number old new new_last next (done + 1)
+under_way_on touch start number old now new last new_last at done next free_links way joins joined other link =
+    let at_in = contains_from_at way.list done at way.at_done in
+    let grown = joins.grows start old way.list free_links way.filling at_in in
+    let list = way.list ++ grown.0 in
+    let at_done : slice_get list done ≡ Some at = kept_append way.list grown.0 done at way.at_done in
+    let within = slice_get_within list done at at_done in
+    let further : done + 1 < length list = elim (cases_lt (done + 1) (length list)) [
+      | inl less ↦ less
+      | inr past ↦ absurd (other (same_Some at new_last (sym at_done ∙ grown.1.linked.last_at done (omega arith))))
+    ] in
+    let follows : slice_get list (done + 1) ≡ Some (get_or list (done + 1) 0) = slice_get-get_or list (done + 1) 0 further in
+    let is_next : get_or list (done + 1) 0 ≡ next = same_Some (get_or list (done + 1) 0) next (sym (grown.1.linked.next done at (get_or list (done + 1) 0) at_done follows) ∙ link) in
     record {
-      cols = spread.cols ∙ filling.cols;
-      rows = spread.rows ∙ filling.rows;
-      kept = λ p j was. spread.kept p j (filling.kept p j was);
-      fresh = λ p j now. elim (spread.fresh p j now) [ inl old ↦ filling.fresh p j old | inr new ↦ inr (new.0, reaches p new.1) ];
-      started = spread.kept start k filling.started;
-      stacked = λ p h. elim (spread.stack_fresh p h) [
-        | inl old ↦ filling.stacked p (rw taken (Contains-append_left rest (at ∷ []) p old))
-        | inr new ↦ (new.1.2, reaches p new.1)
+      list = list;
+      filling = grown.1;
+      at_done = follows ∙ ap (λ (n : ℕ). Some n) is_next;
+      closed = λ m i j less at_i touches. elim (cases_eq m done) [
+        | inl same ↦
+            let is : i ≡ at = same_Some i at (sym at_i ∙ ap (slice_get list) same ∙ at_done) in
+            joined j (subst (λ (k : ℕ). touch k j) is touches)
+        | inr before ↦
+            let early : m < length way.list = omega (arith, slice_get_within way.list done at way.at_done) in
+            let was : slice_get way.list m ≡ Some (get_or way.list m 0) = slice_get-get_or way.list m 0 early in
+            let is : get_or way.list m 0 ≡ i = same_Some (get_or way.list m 0) i (sym (kept_append way.list grown.0 m (get_or way.list m 0) was) ∙ at_i) in
+            let had = way.closed m i j (omega arith) (was ∙ ap (λ (n : ℕ). Some n) is) touches in
+            (had.0, joins.kept j had.0 had.1)
       ];
-      closed = λ p is joined. elim (spread.fresh p k is) [
-        | inl old ↦ elim (filling.closed p old joined) [
-          | inl before ↦ elim (Contains-push_cases rest at p (rw taken at before)) [
-            | inl still ↦ inl (spread.stack_kept p still)
-            | inr same ↦ inr (rw (← same) all)
-          ]
-          | inr done ↦ inr (λ b step in_frame in_set.
-              let had = done b step in_frame in_set in
-              (had.0, spread.kept b had.0 had.1))
-        ]
-        | inr new ↦ inl new.2
-      ];
-      less = omega (arith, filling.less, spread.free);
+      components = joins.components ∙ way.components;
+      links = joins.links ∙ way.links;
+      firsts = joins.firsts ∙ way.firsts;
+      count = joins.count ∙ way.count;
     }
 
-walked_is_numbered : (connectivity : Bool) (set inside : Place → Type 0) (start : Place) (k : ℕ) (base numbers : Numbers) → AreFree (IsJoined connectivity set start) base → ((p : Place) → set p → inside p) → IsFilling connectivity set inside start k base numbers [] → (a b : Place) (walk : List Place) → value_at numbers a ≡ Some (Some k) → IsJoined connectivity set start a → IsWalk (StepsInto connectivity set) a walk b → value_at numbers b ≡ Some (Some k)
-walked_is_numbered connectivity set inside start k base numbers free within filling a b [] is joined walked = rw (← walked) is
-walked_is_numbered connectivity set inside start k base numbers free within filling a b (c ∷ cs) is joined walked =
-    let to_c : IsJoined connectivity set start c = joined_more connectivity set start a c joined walked.0.0 walked.0.1 in
-    let had : IsNumbered numbers c = elim (filling.closed a is joined) [
-      | inl in_none ↦ absurd (not_in_none a in_none)
-      | inr done ↦ done c walked.0.0 (within c walked.0.1) walked.0.1
+-- the last run has been looked at
+pub under_way_end : (touch : ℕ → ℕ → Type 0) (start number : ℕ) (old now new : RunLists) (last at done : ℕ) → IsLinkedToItself old → IsUnderWay touch start number old now last at done → Joins touch at number now new last at → ((j : ℕ) → touch at j → IsNumbered new.components.items j) → Fills touch start number old new
+under_way_end touch start number old now new last at done free_links way joins joined =
+    let at_in = contains_from_at way.list done at way.at_done in
+    let grown = joins.grows start old way.list free_links way.filling at_in in
+    let list = way.list ++ grown.0 in
+    let at_done : slice_get list done ≡ Some at = kept_append way.list grown.0 done at way.at_done in
+    let ends : done + 1 ≡ length list = elim (cases_lt (done + 1) (length list)) [
+      | inr past ↦ omega (arith, slice_get_within list done at at_done)
+      | inl less ↦ absurd (not_last new.links.items list start at done at grown.1.linked at_done less refl)
     ] in
-    let is_c : value_at numbers c ≡ Some (Some k) = elim (filling.fresh c had.0 had.1) [
-      | inl old ↦ absurd (free c to_c had.0 old)
-      | inr new ↦ rw (← new.0) had.1
-    ] in
-    walked_is_numbered connectivity set inside start k base numbers free within filling c b cs is_c to_c walked.1
+    record {
+      list = list;
+      last = at;
+      filling = grown.1;
+      closed = λ i j member touches.
+          let found = at_from_contains list i member in
+          let within = slice_get_within list found.0 i found.1 in
+          elim (cases_eq found.0 done) [
+            | inl same ↦
+                let is : i ≡ at = same_Some i at (sym found.1 ∙ ap (slice_get list) same ∙ at_done) in
+                joined j (subst (λ (k : ℕ). touch k j) is touches)
+            | inr before ↦
+                let early : found.0 < length way.list = omega (arith, slice_get_within way.list done at way.at_done) in
+                let was : slice_get way.list found.0 ≡ Some (get_or way.list found.0 0) = slice_get-get_or way.list found.0 0 early in
+                let is : get_or way.list found.0 0 ≡ i = same_Some (get_or way.list found.0 0) i (sym (kept_append way.list grown.0 found.0 (get_or way.list found.0 0) was) ∙ found.1) in
+                let had = way.closed found.0 i j (omega arith) (was ∙ ap (λ (n : ℕ). Some n) is) touches in
+                (had.0, joins.kept j had.0 had.1)
+          ];
+      components = joins.components ∙ way.components;
+      links = joins.links ∙ way.links;
+      firsts = joins.firsts ∙ way.firsts;
+      count = joins.count ∙ way.count;
+    }
 
--- with an empty stack all that is joined has the number
-pub filled : (connectivity : Bool) (set inside : Place → Type 0) (start : Place) (k : ℕ) (base numbers : Numbers) → AreFree (IsJoined connectivity set start) base → ((p : Place) → set p → inside p) → set start → IsFilling connectivity set inside start k base numbers [] → FillsNumbers (IsJoined connectivity set start) k base numbers
-filled connectivity set inside start k base numbers free within in_set filling = record {
-  cols = filling.cols;
-  rows = filling.rows;
-  kept = filling.kept;
-  fresh = filling.fresh;
-  all = λ p joined. walked_is_numbered connectivity set inside start k base numbers free within filling start p joined.1 filling.started (joined_itself connectivity set start in_set) joined.2;
-  less = filling.less;
-}
+pub distinct_below : (xs : List ℕ) (n : ℕ) → AllPairs (λ i j. i ≢ j) xs → ((i : ℕ) → Contains xs i → i < n) → length xs ≤ n
+distinct_below xs n once below =
+    let most = no_longer xs (range_with_len 0 n) once (λ i member.
+    let less = below i member in
+    (i, omega (arith, less, length-range_with_len 0 n), omega (arith, get_or-range_with_len 0 n i i less))) in
+    omega (arith, most, length-range_with_len 0 n)
 
--- numbers of one size with others
-pub aligned_after : {T : Type 0} (cells : Raster T) (valid : Raster Bool) (old new : Numbers) → AreOfOneSize cells valid old → new.ncols ≡ old.ncols → new.nrows ≡ old.nrows → AreOfOneSize cells valid new
-aligned_after cells valid old new aligned cols rows = record {
-  mask = aligned.mask;
-  cols = cols ∙ aligned.cols;
-  rows = rows ∙ aligned.rows;
-}
+-- no list is longer than the runs
+pub under_way_short : (touch : ℕ → ℕ → Type 0) (start number : ℕ) (old now : RunLists) (last at done : ℕ) → IsUnderWay touch start number old now last at done → done < length old.components.items
+under_way_short touch start number old now last at done way =
+    let within = slice_get_within way.list done at way.at_done in
+    omega (arith, distinct_below way.list (length now.components.items) way.filling.linked.once (λ i member. slice_get_within now.components.items i (Some number) (way.filling.numbered i member)), way.components)
 
--- the neighbour of a number is one step away
-pub spreads_next : (connectivity : Bool) (set inside : Place → Type 0) (way k : ℕ) (old new : Numbers) (s t : List Place) (at next : Place) → way < step_count connectivity → IsNeighbour way at next → inside next → SpreadsNumbers (λ p. (p ≡ next) × set p) k old new s t → SpreadsNumbers (λ p. IsStep connectivity at p × set p × inside p) k old new s t
-spreads_next connectivity set inside way k old new s t at next in_count is in_frame spread =
-    spreads_wider (λ p. (p ≡ next) × set p) (λ p. IsStep connectivity at p × set p × inside p) k old new s t (λ p may. (subst (λ (q : Place). IsStep connectivity at q) (sym may.0) (neighbour_is_step connectivity way at next in_count is), may.1, subst inside (sym may.0) in_frame)) spread
+-- the next run, and the last, are runs
+pub under_way_within : (touch : ℕ → ℕ → Type 0) (start number : ℕ) (old now : RunLists) (last at done : ℕ) → IsUnderWay touch start number old now last at done → (at < length old.components.items) × (last < length old.components.items)
+under_way_within touch start number old now last at done way =
+    let at_is = way.filling.numbered at (contains_from_at way.list done at way.at_done) in
+    let last_is = way.filling.numbered last (last_in now.links.items way.list start last way.filling.linked) in
+    (omega (arith, slice_get_within now.components.items at (Some number) at_is, way.components), omega (arith, slice_get_within now.components.items last (Some number) last_is, way.components))
 
-pub numbered_next : (set : Place → Type 0) (way : ℕ) (numbers : Numbers) (at next : Place) → IsNeighbour way at next → (set next → IsNumbered numbers next) → (p : Place) → IsNeighbour way at p → set p → IsNumbered numbers p
-numbered_next set way numbers at next is numbered p is_p in_set =
-    let same : next ≡ p = same_neighbour way at next p is is_p in
-    subst (λ (q : Place). IsNumbered numbers q) same (numbered (subst set (sym same) in_set))
-
--- the neighbours of these numbers that are in the set have their number
-abbrev pub AreNumberedBelow : (Place → Type 0) → (Place → Type 0) → Numbers → Place → ℕ → Type 0
-AreNumberedBelow set inside numbers at n = (k : ℕ) → k < n → (p : Place) → IsNeighbour k at p → inside p → set p → IsNumbered numbers p
-
-pub numbered_more : (set inside : Place → Type 0) (old new : Numbers) (at : Place) (n : ℕ) → ((p : Place) (j : ℕ) → value_at old p ≡ Some (Some j) → value_at new p ≡ Some (Some j)) → AreNumberedBelow set inside old at n → ((p : Place) → IsNeighbour n at p → inside p → set p → IsNumbered new p) → AreNumberedBelow set inside new at (n + 1)
-numbered_more set inside old new at n kept before last k below p is in_frame in_set = elim (cases_lt k n) [
-  | inl less ↦
-      let had = before k less p is in_frame in_set in
-      (had.0, kept p had.0 had.1)
-  | inr past ↦
-      let same : k ≡ n = omega arith in
-      last p (subst (λ (m : ℕ). IsNeighbour m at p) same is) in_frame in_set
+-- with the rows above and below all contacts of a run have joined
+pub both_joined : (connectivity : Bool) (rows : RowRuns) (at number : ℕ) (middle new : RunLists) (last end : ℕ) → AreJoined connectivity rows (λ row above. row ≡ above + 1) at middle → Joins (contacts connectivity rows) at number middle new last end → AreJoined connectivity rows (λ row below. below ≡ row + 1) at new → (j : ℕ) → contacts connectivity rows at j → IsNumbered new.components.items j
+both_joined connectivity rows at number middle new last end above joins below j contact = elim contact.touch.0 [
+  | inl up ↦
+      let had = above j contact.first contact.second contact.at_first contact.at_second up contact in
+      (had.0, joins.kept j had.0 had.1)
+  | inr down ↦ below j contact.first contact.second contact.at_first contact.at_second down contact
 ]
-
-pub numbered_all : (connectivity : Bool) (set inside : Place → Type 0) (numbers : Numbers) (at : Place) → AreNumberedBelow set inside numbers at (step_count connectivity) → (p : Place) → IsStep connectivity at p → inside p → set p → IsNumbered numbers p
-numbered_all connectivity set inside numbers at all p step in_frame in_set =
-    let way = step_is_neighbour connectivity at p step in
-    all way.0 way.1 p way.2 in_frame in_set
-
--- the same set under another name of its value
-pub free_as : {T : Type 0} (connectivity : Bool) (cells : Raster T) (valid : Raster Bool) (v w : Option T) (start : Place) (base : Numbers) → v ≡ w → AreFree (IsJoined connectivity (HasValue cells valid v) start) base → AreFree (IsJoined connectivity (HasValue cells valid w) start) base
-free_as {T} connectivity cells valid v w start base same free = subst (λ (u : Option T). AreFree (IsJoined connectivity (HasValue cells valid u) start) base) same free
-
-pub filled_as : {T : Type 0} (connectivity : Bool) (cells : Raster T) (valid : Raster Bool) (v w : Option T) (start : Place) (k : ℕ) (base numbers : Numbers) → v ≡ w → FillsNumbers (IsJoined connectivity (HasValue cells valid w) start) k base numbers → FillsNumbers (IsJoined connectivity (HasValue cells valid v) start) k base numbers
-filled_as {T} connectivity cells valid v w start k base numbers same fill = subst (λ (u : Option T). FillsNumbers (IsJoined connectivity (HasValue cells valid u) start) k base numbers) (sym same) fill

@@ -1,4 +1,4 @@
-use Rattle.std.proofs.Common.{◌≡◌, ℕ, zero, suc, ◌+◌, ◌<◌, ◌⊎◌, inl, inr, List, [], ◌∷◌, ◌++◌, Some, length, length-append, take, refl, ap, ◌∙◌, arith}
+use Rattle.std.proofs.Common.{◌≡◌, ◌≢◌, set, ℕ, zero, suc, ◌+◌, ◌<◌, ◌⊎◌, inl, inr, List, [], ◌∷◌, ◌++◌, Some, length, length-append, take, refl, ap, ◌∙◌, arith}
 use Rattle.std.specs.Prelude.{Contains, slice_get}
 use Rattle.std.proofs.lemmas.Option.{slice_get_within, slice_get-get_or, get_or_from_slice_get, gets}
 use Rattle.std.proofs.lemmas.Grind.{common_steps}
@@ -33,3 +33,13 @@ pub at_push_cases : {A : Type 0} (xs : List A) (x : A) (k : ℕ) (y : A) → sli
 at_push_cases xs x k y is =
     let within : k < length xs + 1 = omega (arith, length-append xs (x ∷ []), slice_get_within (xs ++ x ∷ []) k y is) in
     at_push_of xs x k y within is
+
+pub slice_get-set_same : {A : Type 0} (xs : List A) (i : ℕ) (v : A) → i < length xs → slice_get (set xs i v) i ≡ Some v
+slice_get-set_same xs i v within = grind (arith, common_steps, gets)
+
+pub slice_get-set_other : {A : Type 0} (xs : List A) (i j : ℕ) (v : A) → j ≢ i → slice_get (set xs i v) j ≡ slice_get xs j
+slice_get-set_other xs i j v other = grind (arith, common_steps, gets)
+
+-- one more of the front
+pub take_push : {A : Type 0} (xs : List A) (k : ℕ) (x : A) → slice_get xs k ≡ Some x → take (k + 1) xs ≡ take k xs ++ x ∷ []
+take_push xs k x at = grind (arith, common_steps, gets, at, slice_get_within xs k x at)

@@ -1,4 +1,3 @@
-pub mod Tables
-pub mod Fill
-pub mod Scan
-pub mod Sizes
+pub mod Rows
+pub mod Lists
+pub mod Table

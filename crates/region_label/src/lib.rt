@@ -1,10 +1,17 @@
 //! The connected components of a grid's equal valid cells.
 #![tactic(auto)]
 
-mod fill;
+mod labelling;
+mod laws;
+mod lists;
 mod regions;
-mod scan;
-mod sizes;
+mod rows;
+mod table;
+mod walk;
 
+pub use cell_base::Run;
+pub use labelling::label;
+pub use laws::labelling_is_one;
 pub use regions::Regions;
-pub use scan::label;
+pub use table::RunTable;
+pub use walk::RunWalk;

@@ -1,45 +1,37 @@
 ghost use Rattle.std.specs.Prelude.{◌≡◌, ◌<◌, Some, length, slice_get};
 ghost use Rattle.cell_base.specs.Raster.{IsRaster, value_at};
-ghost use Rattle.region_label.specs.Inner.Tables.{AreListed};
+ghost use Rattle.region_label.specs.RunTable.{IsTableOfRegions, regions_of};
+ghost use Rattle.region_label.specs.Inner.Table.{HasSizes};
 
-use cell_base::Grid;
+use crate::table::RunTable;
 use std::marker::Model;
 
 /// The components of a grid: which one each cell is in, and the first cell and the size of each.
 #[derive(Drop)]
 pub struct Regions {
-    numbers: Grid<Option<u32>>,
-    firsts: Vec<(u32, u32)>,
+    table: RunTable,
     sizes: Vec<u32>,
 }
 
 impl Model for Regions {
-    ghost use Rattle.region_label.specs.Inner.Tables.{AreListed};
+    ghost use Rattle.region_label.specs.Inner.Table.{HasSizes};
     ghost use Rattle.region_label.specs.Labelling.{RegionTable};
+    ghost use Rattle.region_label.specs.RunTable.{regions_of};
 
     ghost Value = { RegionTable };
 
-    ghost view = { λ regions.
-        record { numbers = regions.numbers; firsts = regions.firsts.items; sizes = regions.sizes.items } };
+    ghost view = { λ regions. regions_of regions.table };
 
-    ghost invariant = { λ regions. AreListed regions.firsts.items regions.sizes.items };
+    ghost invariant = { λ regions. HasSizes regions.table regions.sizes.items };
 }
 
 impl Regions {
-    // The components with these numbers, first cells and sizes.
-    pub(crate) fn of(
-        numbers: Grid<Option<u32>>,
-        firsts: Vec<(u32, u32)>,
-        sizes: Vec<u32>,
-    ) -> Regions
-        requires { AreListed firsts.items sizes.items }
-        ensures { result ≡ record { numbers = numbers; firsts = firsts.items; sizes = sizes.items } }
+    // The components of a filled table, with their sizes.
+    pub(crate) fn of(table: RunTable, sizes: Vec<u32>) -> Regions
+        requires { HasSizes table sizes.items }
+        ensures { result ≡ regions_of table }
     {
-        Regions {
-            numbers,
-            firsts,
-            sizes,
-        }
+        Regions { table, sizes }
     }
 
     /// The number of columns of the grid.
@@ -47,7 +39,7 @@ impl Regions {
         ensures value { result ≡ self.now.numbers.ncols }
         ensures shape { IsRaster self.now.numbers }
     {
-        self.numbers.ncols()
+        self.table.ncols()
     }
 
     /// The number of rows of the grid.
@@ -55,14 +47,14 @@ impl Regions {
         ensures value { result ≡ self.now.numbers.nrows }
         ensures shape { IsRaster self.now.numbers }
     {
-        self.numbers.nrows()
+        self.table.nrows()
     }
 
     /// The number of components.
     pub fn count(&self) -> u32
         ensures { result ≡ length self.now.firsts }
     {
-        self.firsts.len() as u32
+        self.table.count()
     }
 
     /// The component that a cell is in. None exactly for a cell that isn't valid.
@@ -71,7 +63,7 @@ impl Regions {
         requires col { col < self.now.numbers.ncols }
         ensures { value_at self.now.numbers (row, col) ≡ Some result }
     {
-        self.numbers.get(row, col)
+        self.table.component_at(row, col)
     }
 
     /// The first cell of a component.
@@ -79,7 +71,8 @@ impl Regions {
         requires { k < length self.now.firsts }
         ensures { slice_get self.now.firsts k ≡ Some result }
     {
-        self.firsts[k as usize]
+        let run = self.table.first_run(k);
+        (run.row, run.from)
     }
 
     /// The number of cells of a component.
@@ -88,5 +81,13 @@ impl Regions {
         ensures { slice_get self.now.sizes k ≡ Some result }
     {
         self.sizes[k as usize]
+    }
+
+    /// The runs of the labelled cells, filled at the connectivity of the labelling.
+    pub fn table(&self) -> &RunTable
+        ensures regions { self.now ≡ regions_of result.now }
+        ensures runs { IsTableOfRegions self.now result.now }
+    {
+        &self.table
     }
 }

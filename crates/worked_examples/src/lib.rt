@@ -1,6 +1,6 @@
-//! Worked examples: numbers, cells and frames, components, layers, and runs of the whole program over words and
-//! files in memory, with what each must give. No clause rules out that a call runs out of memory, so each example
-//! also shows that it doesn't where memory is ample.
+//! Worked examples: numbers, cells and frames, runs of cells and components, layers, and runs of the whole program
+//! over words and files in memory, with what each must give. No clause rules out that a call runs out of memory, so
+//! each example also shows that it doesn't where memory is ample.
 #![tactic(auto)]
 
 #[cfg(test)]
@@ -15,5 +15,7 @@ mod numbers;
 mod outside;
 #[cfg(test)]
 mod regions;
+#[cfg(test)]
+mod run_table;
 #[cfg(test)]
 mod runs;

@@ -1,0 +1,13 @@
+use Rattle.std.proofs.Common.{◌≡◌, Some, ap, sym, ◌∙◌, arith}
+use Rattle.std.specs.Prelude.{slice_get}
+use Rattle.std.proofs.lemmas.Option.{same_Some, slice_get-get_or}
+use Rattle.region_label.specs.Run.{Run}
+use Rattle.region_label.proofs.lists.RunLists.join_above.Goals as goal
+
+pub returns-clause-joined : goal.returns-clause-joined
+returns-clause-joined g c =
+    let rows = c.args.rows.now in
+    let at_run : slice_get rows.runs.items c.args.at ≡ Some c.index.result.now = slice_get-get_or rows.runs.items c.args.at c.index.result.now c.requires.at ∙ ap (λ (r : Run). Some r) (sym c.index.ensures) in
+    λ j a b at_a at_b above contact.
+    let row : c.index.result.now.row ≡ a.row = ap (λ (r : Run). r.row) (same_Some c.index.result.now a (sym at_run ∙ at_a)) in
+    c.join_row.ensures.joined j a b at_a at_b (omega arith) contact

@@ -1,0 +1,12 @@
+use Rattle.std.proofs.Common.{◌≡◌}
+use Rattle.region_label.specs.Inner.Rows.{AreFound, AreStarts}
+use Rattle.region_label.proofs.rows.RowRuns.build.Given as goal
+
+-- the runs of the rows before this one are found
+abbrev pub invariant-loop-row : goal.invariant-loop-row
+invariant-loop-row g l = record {
+  ncols : l.rows.ncols ≡ l.cells.ncols;
+  nrows : l.rows.nrows ≡ l.cells.nrows;
+  found : AreFound g.T.Cell.units_of l.cells l.valid l.rows.runs.items l.rows.units.items (l.row, 0);
+  starts : AreStarts l.rows.runs.items l.rows.starts.items l.row;
+}

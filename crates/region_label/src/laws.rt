@@ -1,0 +1,10 @@
+// What holds of labellings, whatever code finds them.
+ghost use Rattle.std.specs.Prelude.{◌≡◌, Bool};
+ghost use Rattle.cell_base.specs.Raster.{Raster};
+ghost use Rattle.region_label.specs.Labelling.{IsLabelling, RegionTable};
+
+/// The labelling of a grid under a connectivity is one: two tables of its components are the same.
+pub fn labelling_is_one<T>()
+    ensures { (connectivity : Bool) (cells : Raster T) (valid : Raster Bool) (a b : RegionTable)
+        → IsLabelling connectivity cells valid a → IsLabelling connectivity cells valid b → a ≡ b }
+{}
