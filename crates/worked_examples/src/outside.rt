@@ -14,7 +14,7 @@ fn a_real_file_holds_what_was_appended_and_nothing_else(rt: HostRuntime) -> Resu
     let mut folder = HostFolder::new(&rt, alloc);
     assert!(rt;
         matches!(
-            read_whole(alloc, &mut folder, "a.txt"),
+            read_whole(alloc, &mut folder, "nosuch.txt"),
             Err(FetchFault::Missing)
         )
     );
