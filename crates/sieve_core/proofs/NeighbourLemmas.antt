@@ -17,7 +17,7 @@ use Rattle.region_label.proofs.ListLemmas.{slice_get-set_other, slice_get-set_sa
 use Rattle.sieve_core.specs.Sieve.{IsNextTo, size_of}
 use Rattle.sieve_core.specs.Inner.Neighbours.{AreAbove, AreBest, AreLargest, AreNear, AreNeighbours, ComesNext, HasMetAll, HaveMet, Improves, IsCovered, IsFirstTouching, IsNoBetter, RowsHaveMet}
 
-no_better_trans : (regions : RegionTable) (i j m : ℕ) → IsNoBetter regions i j → IsNoBetter regions j m → IsNoBetter regions i m
+pub no_better_trans : (regions : RegionTable) (i j m : ℕ) → IsNoBetter regions i j → IsNoBetter regions j m → IsNoBetter regions i m
 no_better_trans regions i j m (inl a) (inl b) = inl (omega arith)
 no_better_trans regions i j m (inl a) (inr b) = inl (omega (arith, b.0))
 no_better_trans regions i j m (inr a) (inl b) = inl (omega (arith, a.0))
