@@ -100,29 +100,45 @@ best_below : (connectivity : Bool) (regions : RegionTable) (k n : ℕ) → IsRas
 best_below connectivity regions k zero shape = inr (λ j less. absurd (omega arith))
 best_below connectivity regions k (suc n) shape = elim (next_decided connectivity regions k n shape) [
   | inr not_next ↦ elim (best_below connectivity regions k n shape) [
-    | inl best ↦ inl (best.0, best.1, λ j less next. elim (cases_eq j n) [
-      | inl same ↦ absurd (not_next (subst (λ (i : ℕ). IsNextTo connectivity regions k i) same next))
-      | inr other ↦ best.2 j (omega arith) next
-    ])
+    | inl best ↦ inl (
+      best.0,
+      best.1,
+      λ j less next. elim (cases_eq j n) [
+        | inl same ↦ absurd (not_next (subst (λ (i : ℕ). IsNextTo connectivity regions k i) same next))
+        | inr other ↦ best.2 j (omega arith) next
+      ],
+    )
     | inr none ↦ inr (λ j less next. elim (cases_eq j n) [
       | inl same ↦ not_next (subst (λ (i : ℕ). IsNextTo connectivity regions k i) same next)
       | inr other ↦ none j (omega arith) next
     ])
   ]
   | inl is_next ↦ elim (best_below connectivity regions k n shape) [
-    | inr none ↦ inl (n, is_next, λ j less next. elim (cases_eq j n) [
-      | inl same ↦ subst (λ (i : ℕ). IsNoBetter regions i n) (sym same) (no_better_itself regions n)
-      | inr other ↦ absurd (none j (omega arith) next)
-    ])
-    | inl best ↦ elim (one_no_better regions n best.0) [
-      | inl worse ↦ inl (best.0, best.1, λ j less next. elim (cases_eq j n) [
-        | inl same ↦ subst (λ (i : ℕ). IsNoBetter regions i best.0) (sym same) worse
-        | inr other ↦ best.2 j (omega arith) next
-      ])
-      | inr better ↦ inl (n, is_next, λ j less next. elim (cases_eq j n) [
+    | inr none ↦ inl (
+      n,
+      is_next,
+      λ j less next. elim (cases_eq j n) [
         | inl same ↦ subst (λ (i : ℕ). IsNoBetter regions i n) (sym same) (no_better_itself regions n)
-        | inr other ↦ no_better_trans regions j best.0 n (best.2 j (omega arith) next) better
-      ])
+        | inr other ↦ absurd (none j (omega arith) next)
+      ],
+    )
+    | inl best ↦ elim (one_no_better regions n best.0) [
+      | inl worse ↦ inl (
+        best.0,
+        best.1,
+        λ j less next. elim (cases_eq j n) [
+          | inl same ↦ subst (λ (i : ℕ). IsNoBetter regions i best.0) (sym same) worse
+          | inr other ↦ best.2 j (omega arith) next
+        ],
+      )
+      | inr better ↦ inl (
+        n,
+        is_next,
+        λ j less next. elim (cases_eq j n) [
+          | inl same ↦ subst (λ (i : ℕ). IsNoBetter regions i n) (sym same) (no_better_itself regions n)
+          | inr other ↦ no_better_trans regions j best.0 n (best.2 j (omega arith) next) better
+        ],
+      )
     ]
   ]
 ]
@@ -133,11 +149,14 @@ largest_or_none connectivity regions k shape known = elim (best_below connectivi
   | inr none ↦ inr (λ m next. none m (known m next.2 next.4) next)
   | inl best ↦
       let no_better : (j : ℕ) → IsNextTo connectivity regions k j → IsNoBetter regions j best.0 = λ j next. best.2 j (known j next.2 next.4) next in
-      inl (best.0, record {
-        next_to = best.1;
-        largest = λ j next. elim (no_better j next) [ inl less ↦ omega (arith, less) | inr same ↦ omega (arith, same.0) ];
-        lowest = λ j next equal. elim (no_better j next) [ inl less ↦ absurd (omega (arith, less, equal)) | inr same ↦ same.1 ];
-      })
+      inl (
+        best.0,
+        record {
+          next_to = best.1;
+          largest = λ j next. elim (no_better j next) [ inl less ↦ omega (arith, less) | inr same ↦ omega (arith, same.0) ];
+          lowest = λ j next equal. elim (no_better j next) [ inl less ↦ absurd (omega (arith, less, equal)) | inr same ↦ same.1 ];
+        },
+      )
 ]
 
 -- the first of so many members of a chain that is large enough, or none is
@@ -160,6 +179,7 @@ reached_or_none connectivity regions st (suc n) k shape known = elim (cases_lt (
     no_way : (m : ℕ) (chain : List ℕ) → ((c : ℕ) (cs : List ℕ) → IsWalk (IsChained connectivity regions st) k (c ∷ cs) m → ⊥) → size_of regions k < st → IsWalk (IsChained connectivity regions st) k chain m → st ≤ size_of regions m → ⊥
     no_way m [] alone small walked big = omega (arith, small, big, ap (size_of regions) walked)
     no_way m (c ∷ cs) alone small walked big = alone c cs walked
+
     no_way_on : (m next : ℕ) (chain : List ℕ) → IsLargest connectivity regions k next → ((j : ℕ) → ¬ IsReached connectivity regions st n next j) → size_of regions k < st → IsWalk (IsChained connectivity regions st) k chain m → length chain < suc n → st ≤ size_of regions m → ⊥
     no_way_on m next [] largest none small walked short big = omega (arith, small, big, ap (size_of regions) walked)
     no_way_on m next (c ∷ cs) largest none small walked short big =

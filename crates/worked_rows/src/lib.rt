@@ -1,6 +1,6 @@
-//! Worked rows: numbers, cells and frames, runs of cells and components, and runs of the whole program over words and files in
-//! memory, with what each must give. No clause rules out that a call runs out of memory, so each row also
-//! shows that it doesn't where memory is ample.
+//! Worked rows: numbers, cells and frames, runs of cells, components and the sieve, and runs of the whole
+//! program over words and files in memory, with what each must give. No clause rules out that a call runs out
+//! of memory, so each row also shows that it doesn't where memory is ample.
 #![tactic(auto)]
 
 #[cfg(test)]
@@ -17,3 +17,5 @@ mod regions;
 mod run_table;
 #[cfg(test)]
 mod runs;
+#[cfg(test)]
+mod sieve;
