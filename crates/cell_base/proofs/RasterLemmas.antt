@@ -1,5 +1,5 @@
 -- The rows of a flat list of cells.
-use Rattle.std.proofs.Common.{◌≡◌, ◌≢◌, ℕ, zero, suc, ◌+◌, ◌*◌, ◌<◌, ◌≤◌, ◌⊎◌, inl, inr, List, [], Some, None, length, take, drop, set, arith, refl, sym, ap, ◌∙◌}
+use Rattle.std.proofs.Common.{◌≡◌, ◌≢◌, ℕ, zero, suc, ◌+◌, ◌*◌, ◌<◌, ◌≤◌, ◌⊎◌, inl, inr, List, [], Some, None, length, length-set, take, drop, set, arith, refl, sym, ap, ◌∙◌}
 use Rattle.std.specs.Prelude.{slice_get, slice_set, unwrap_or}
 use Rattle.std.proofs.lemmas.List.{drop-drop}
 use Rattle.std.proofs.lemmas.Bool.{cases_lt}
@@ -47,6 +47,24 @@ slice_get-set_same xs i v within = grind (arith, common_steps, gets)
 slice_get-set_other : {T : Type 0} (xs : List T) (i j : ℕ) (v : T) → j ≢ i → slice_get (set xs i v) j ≡ slice_get xs j
 slice_get-set_other xs i j v other = grind (arith, common_steps, gets)
 
+length-row : {T : Type 0} (ncols nrows : ℕ) (cells : List T) (r : ℕ) → HasCellForEachPlace ncols nrows cells → r < nrows → length (take ncols (drop (r * ncols) cells)) ≡ ncols
+length-row ncols nrows cells r full within =
+    let more : suc r * ncols ≤ nrows * ncols = mul-le-mul_right ncols within in
+    let enough : r * ncols + ncols ≤ length cells = omega (arith, full.count, more) in
+    grind (arith, common_steps, enough)
+
+-- a vector with a value for each cell makes a grid
+pub raster_from_cells : {T : Type 0} (ncols nrows : ℕ) (cells : List T) → HasCellForEachPlace ncols nrows cells → IsRaster (raster_of ncols nrows cells)
+raster_from_cells ncols nrows cells full = record {
+  some_cols = full.some_cols;
+  some_rows = full.some_rows;
+  small = full.small;
+  height = length-rows_of ncols nrows cells;
+  width = λ k d within.
+      let row : slice_get (rows_of ncols nrows cells) k ≡ Some (take ncols (drop (k * ncols) cells)) = slice_get-rows_of ncols nrows cells k (omega (arith, within, length-rows_of ncols nrows cells)) in
+      rw (get_or_from_slice_get _ k _ d row) (length-row ncols nrows cells k full (omega (arith, within, length-rows_of ncols nrows cells)));
+}
+
 -- the value at a place, by whether the place is inside
 abbrev IsLooked : {T : Type 0} → ℕ → ℕ → List T → List T → ℕ → ℕ → Type 0
 IsLooked ncols nrows before after r c = value_at (raster_of ncols nrows after) (r, c) ≡ value_at (raster_of ncols nrows before) (r, c)
@@ -66,6 +84,7 @@ sets_place {T} ncols nrows cells row col v full in_row in_col =
     record {
       ncols = refl;
       nrows = refl;
+      shape = raster_from_cells ncols nrows after (record { some_cols = full.some_cols; some_rows = full.some_rows; small = full.small; count = length-set cells (row * ncols + col) v ∙ full.count });
       set = value_at-raster_of ncols nrows after row col in_row in_col ∙ slice_get-set_same cells (row * ncols + col) v at;
       others = λ q other. elim (cases_lt q.0 nrows) [
         | inl in_r ↦ elim (cases_lt q.1 ncols) [
@@ -75,21 +94,3 @@ sets_place {T} ncols nrows cells row col v full in_row in_col =
         | inr out ↦ outside q.0 q.1 (inl out)
       ];
     }
-
-length-row : {T : Type 0} (ncols nrows : ℕ) (cells : List T) (r : ℕ) → HasCellForEachPlace ncols nrows cells → r < nrows → length (take ncols (drop (r * ncols) cells)) ≡ ncols
-length-row ncols nrows cells r full within =
-    let more : suc r * ncols ≤ nrows * ncols = mul-le-mul_right ncols within in
-    let enough : r * ncols + ncols ≤ length cells = omega (arith, full.count, more) in
-    grind (arith, common_steps, enough)
-
--- a vector with a value for each cell makes a grid
-pub raster_from_cells : {T : Type 0} (ncols nrows : ℕ) (cells : List T) → HasCellForEachPlace ncols nrows cells → IsRaster (raster_of ncols nrows cells)
-raster_from_cells ncols nrows cells full = record {
-  some_cols = full.some_cols;
-  some_rows = full.some_rows;
-  small = full.small;
-  height = length-rows_of ncols nrows cells;
-  width = λ k d within.
-      let row : slice_get (rows_of ncols nrows cells) k ≡ Some (take ncols (drop (k * ncols) cells)) = slice_get-rows_of ncols nrows cells k (omega (arith, within, length-rows_of ncols nrows cells)) in
-      rw (get_or_from_slice_get _ k _ d row) (length-row ncols nrows cells k full (omega (arith, within, length-rows_of ncols nrows cells)));
-}

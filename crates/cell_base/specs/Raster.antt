@@ -48,5 +48,6 @@ raster_of ncols nrows cells = record { ncols = ncols; nrows = nrows; rows = rows
 pub record SetsPlace {T : Type 0} (old new : Raster T) (place : Place) (value : T) : Type 0 where
   pub ncols : new.ncols ≡ old.ncols
   pub nrows : new.nrows ≡ old.nrows
+  pub shape : IsRaster new
   pub set : value_at new place ≡ Some value
   pub others : (q : Place) → q ≢ place → value_at new q ≡ value_at old q

@@ -13,7 +13,7 @@ use Rattle.region_label.specs.RunTable.{IsTableOfCells, TableOfRuns}
 use Rattle.region_label.specs.Inner.Lists.{IsContact, IsOf, Touches, corner}
 use Rattle.region_label.proofs.ComponentLemmas.{component_itself, component_trans, same_value}
 
-side_step : (connectivity : Bool) (a b : Place) → SharesSide a b → IsStep connectivity a b
+pub side_step : (connectivity : Bool) (a b : Place) → SharesSide a b → IsStep connectivity a b
 side_step false a b side = side
 side_step true a b side = inl side
 
@@ -32,14 +32,14 @@ cell_joined connectivity set run p all in_run =
     let col : run.from + (p.1 - run.from) ≡ p.1 = omega (arith, in_run.1) in
     let row : run.row ≡ p.0 = sym in_run.0 in
     let same : (run.row, run.from + (p.1 - run.from)) ≡ (p.0, p.1) = cc in
-    subst (λ (q : Place). IsJoined connectivity set (first_cell run) q) same (run_joined connectivity set run all (p.1 - run.from) (omega (arith, col, in_run.2)))
+    let within : run.from + (p.1 - run.from) < run.to = omega (arith, col, in_run.2) in
+    subst (λ (q : Place). IsJoined connectivity set (first_cell run) q) same (run_joined connectivity set run all (p.1 - run.from) within)
 
 -- two cells of runs that touch
-AreClose : Bool → Run → Run → Type 0
+abbrev pub AreClose : Bool → Run → Run → Type 0
 AreClose connectivity a b = (p : Place) × (q : Place) × IsCellOf a p × IsCellOf b q × IsStep connectivity p q
 
 close_by_side : (connectivity : Bool) (a b : Run) (col : ℕ) → AreNext a.row b.row → a.from ≤ col → col < a.to → b.from ≤ col → col < b.to → AreClose connectivity a b
-unfolding AreClose
 close_by_side connectivity a b col next from_a to_a from_b to_b =
     ((a.row, col), (b.row, col), (refl, from_a, to_a), (refl, from_b, to_b), side_step connectivity (a.row, col) (b.row, col) (inr (refl, next)))
 
@@ -49,8 +49,7 @@ close_four connectivity a b next some_a some_b first second = elim (cases_lt a.f
   | inr past ↦ close_by_side connectivity a b a.from next (omega arith) some_a past first
 ]
 
-close : (connectivity : Bool) (a b : Run) → a.from < a.to → b.from < b.to → Touches connectivity a b → AreClose connectivity a b
-unfolding AreClose
+pub close : (connectivity : Bool) (a b : Run) → a.from < a.to → b.from < b.to → Touches connectivity a b → AreClose connectivity a b
 close false a b some_a some_b touch = close_four false a b touch.0 some_a some_b (omega (arith, touch.1)) (omega (arith, touch.2))
 close true a b some_a some_b touch = elim (cases_lt a.from b.to) [
   | inr left ↦
@@ -74,7 +73,6 @@ run_value cells valid table i run u is at unit =
 
 -- the first cells of two runs in contact are joined
 pub contact_joined : (connectivity : Bool) (cells : Raster ℤ) (valid : Raster Bool) (table : TableOfRuns) (i j : ℕ) (a b : Run) → IsTableOfCells cells valid table → slice_get table.runs i ≡ Some a → slice_get table.runs j ≡ Some b → IsContact connectivity table.runs table.units i j → InComponent connectivity cells valid (first_cell a) (first_cell b)
-unfolding AreClose
 contact_joined connectivity cells valid table i j a b is at_a at_b contact =
     let set = HasValue cells valid (Some contact.value) in
     let same_a : contact.first ≡ a = same_Some contact.first a (sym contact.at_first ∙ at_a) in
@@ -125,7 +123,7 @@ stays_in_row set run p q is in_p in_set same (inr right) = elim (cases_lt q.1 ru
 ]
 
 -- a step leads along the row, or to a run that touches
-step_cases : (connectivity : Bool) (p q : Place) → IsStep connectivity p q → ((p.0 ≡ q.0) × AreNext p.1 q.1) ⊎ (AreNext p.0 q.0 × (p.1 < q.1 + 1 + corner connectivity) × (q.1 < p.1 + 1 + corner connectivity))
+pub step_cases : (connectivity : Bool) (p q : Place) → IsStep connectivity p q → ((p.0 ≡ q.0) × AreNext p.1 q.1) ⊎ (AreNext p.0 q.0 × (p.1 < q.1 + 1 + corner connectivity) × (q.1 < p.1 + 1 + corner connectivity))
 step_cases false p q (inl row) = inl row
 step_cases false p q (inr col) = inr (col.1, omega (arith, col.0), omega (arith, col.0))
 step_cases true p q (inl (inl row)) = inl row

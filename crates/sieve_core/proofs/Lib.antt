@@ -1,4 +1,8 @@
 pub mod SieveLemmas
+pub mod NeighbourLemmas
+pub mod ChainLemmas
+pub mod ValueLemmas
+pub mod OneSieveLemmas
 pub mod NeighbourDeciders
 pub mod SieveDeciders
 pub mod TargetLemmas

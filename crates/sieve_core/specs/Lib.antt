@@ -1,1 +1,2 @@
 pub mod Sieve
+pub mod Inner

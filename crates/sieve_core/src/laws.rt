@@ -17,3 +17,9 @@ pub fn threshold_one_keeps_all<T>()
     ensures { (connectivity : Bool) (cells sieved : Raster T) (valid : Raster Bool) (st : ℕ)
         → st ≤ 1 → IsSieved connectivity cells valid st sieved → sieved ≡ cells }
 {}
+
+/// The sieved grid is one: two sieved grids of the same cells at the same threshold and connectivity are the same.
+pub fn sieved_is_one<T>()
+    ensures { (connectivity : Bool) (cells a b : Raster T) (valid : Raster Bool) (st : ℕ)
+        → IsSieved connectivity cells valid st a → IsSieved connectivity cells valid st b → a ≡ b }
+{}

@@ -1,0 +1,3 @@
+pub mod Neighbours
+pub mod Targets
+pub mod Values
