@@ -2,3 +2,15 @@ pub mod EdgeDeciders
 pub mod ParityLemmas
 pub mod BoundaryLemmas
 pub mod EdgeTableExamples
+pub mod NumberLemmas
+pub mod SideLemmas
+pub mod TurnLemmas
+pub mod CornerLemmas
+pub mod FollowLemmas
+pub mod WholeLemmas
+pub mod GrowLemmas
+pub mod StretchLemmas
+pub mod RowLemmas
+pub mod CellLemmas
+pub mod BuildLemmas
+pub mod SlotLemmas

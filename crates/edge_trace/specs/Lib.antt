@@ -1,3 +1,5 @@
 pub mod Edge
 pub mod Crossing
 pub mod EdgeTable
+pub mod EdgeOrder
+pub mod Inner

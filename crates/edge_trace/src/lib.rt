@@ -2,5 +2,9 @@
 #![tactic(auto)]
 
 mod laws;
+mod links;
+mod sides;
+mod table;
 
 pub use laws::boundary_encloses;
+pub use table::{Corner, EdgeTable};

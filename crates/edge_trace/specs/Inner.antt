@@ -1,0 +1,4 @@
+pub mod Sides
+pub mod Finding
+pub mod Links
+pub mod Table
