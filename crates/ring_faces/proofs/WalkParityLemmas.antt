@@ -9,12 +9,12 @@ use Rattle.std.proofs.Math.Bool.{xor}
 use Rattle.ring_faces.proofs.RingLemmas.{Leads}
 
 -- a walk changes between a set of corners and the rest an odd number of times exactly where its ends differ
-changes_sides : (side : Corner → Bool) (a b : Corner) (edges : List Edge) → Leads a edges b → is_odd (λ e. xor (side e.0) (side e.1)) edges ≡ xor (side a) (side b)
+pub changes_sides : (side : Corner → Bool) (a b : Corner) (edges : List Edge) → Leads a edges b → is_odd (λ e. xor (side e.0) (side e.1)) edges ≡ xor (side a) (side b)
 changes_sides side a b [] leads = rw leads (sym (xor_self (side b)))
 changes_sides side a b (e ∷ es) leads = rw (changes_sides side e.1 b es leads.2, leads.0) (xor_joins (side a) (side e.1) (side b))
 
 -- tests that agree at each unit edge have one parity
-odd_same : (p q : Edge → Bool) → ((e : Edge) → IsUnitEdge e → p e ≡ q e) → (a b : Corner) (edges : List Edge) → Leads a edges b → is_odd p edges ≡ is_odd q edges
+pub odd_same : (p q : Edge → Bool) → ((e : Edge) → IsUnitEdge e → p e ≡ q e) → (a b : Corner) (edges : List Edge) → Leads a edges b → is_odd p edges ≡ is_odd q edges
 odd_same p q same a b [] leads = refl
 odd_same p q same a b (e ∷ es) leads = rw (same e leads.1, odd_same p q same e.1 b es leads.2) refl
 

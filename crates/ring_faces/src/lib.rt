@@ -1,2 +1,12 @@
 //! The polygons of components.
 #![tactic(auto)]
+
+mod cycles;
+mod faces;
+mod laws;
+mod lists;
+mod polygon;
+
+pub use faces::Faces;
+pub use laws::{canonical_polygons_fit, each_has_one_polygon, labelled_by_sides};
+pub use polygon::{LatticePolygon, Ring, RingList};

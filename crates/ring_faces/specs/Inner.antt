@@ -1,0 +1,4 @@
+pub mod Turns
+pub mod Cycles
+pub mod Tables
+pub mod Chains

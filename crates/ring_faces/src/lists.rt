@@ -1,0 +1,61 @@
+// Links the cycles of each component.
+ghost use Rattle.std.specs.Prelude.{◌+◌, ◌<◌, ◌^◌, IfOk, length};
+ghost use Rattle.edge_trace.specs.EdgeTable.{HoldsBoundaries};
+ghost use Rattle.ring_faces.specs.Faces.{AreJoinedBySides};
+ghost use Rattle.ring_faces.specs.Inner.Chains.{AreListed, CyclesBegin};
+
+use crate::cycles::Cycle;
+use edge_trace::EdgeTable;
+use region_label::Regions;
+use std::alloc::{AllocError, Global};
+
+// By cycle the next one of its component, or the number of cycles where none follows; by component its first.
+#[derive(Drop)]
+pub(crate) struct CycleLists {
+    pub(crate) links: Vec<u32>,
+    pub(crate) firsts: Vec<u32>,
+}
+
+impl CycleLists {
+    // Puts a cycle in front of its component's list.
+    fn put(&mut self, edges: &EdgeTable, cycles: &[Cycle], regions: &Regions, at: usize)
+        requires edges { HoldsBoundaries regions.now edges.now }
+        requires sides { AreJoinedBySides regions.now }
+        requires begin { CyclesBegin edges.now cycles.now }
+        requires few { length cycles.now < 2 ^ 32 }
+        requires at { at < length cycles.now }
+        requires listed { AreListed regions.now edges.now cycles.now self.old (at + 1) }
+        ensures { AreListed regions.now edges.now cycles.now self.new at }
+    {
+        let (row, col) = edges.cell_of(cycles[at].first);
+        if let Some(k) = regions.region_of(row, col) {
+            self.links[at] = self.firsts[k as usize];
+            self.firsts[k as usize] = at as u32;
+        }
+    }
+
+    // The cycles of each component in the order in which they stand. The only error is want of memory.
+    pub(crate) fn make(
+        alloc: Global,
+        edges: &EdgeTable,
+        cycles: &[Cycle],
+        regions: &Regions,
+    ) -> Result<CycleLists, AllocError>
+        requires edges { HoldsBoundaries regions.now edges.now }
+        requires sides { AreJoinedBySides regions.now }
+        requires begin { CyclesBegin edges.now cycles.now }
+        requires few { length cycles.now < 2 ^ 32 }
+        ensures { IfOk result (λ lists. AreListed regions.now edges.now cycles.now lists 0) }
+    {
+        let end = cycles.len() as u32;
+        let links = vec![in alloc; end; cycles.len()]?;
+        let firsts = vec![in alloc; end; regions.count() as usize]?;
+        let mut lists = CycleLists { links, firsts };
+        let mut at = cycles.len();
+        while at > 0 {
+            at -= 1;
+            lists.put(edges, cycles, regions, at);
+        }
+        Ok(lists)
+    }
+}
