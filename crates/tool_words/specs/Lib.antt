@@ -1,0 +1,11 @@
+pub mod Words
+pub mod Value
+pub mod Grammar
+pub mod Offence
+pub mod Chosen
+pub mod Sieve
+pub mod Polygonize
+pub mod Rasterize
+pub mod Contour
+pub mod Job
+pub mod Inner
