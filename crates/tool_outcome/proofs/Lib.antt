@@ -1,0 +1,4 @@
+pub mod MaskLemmas
+pub mod SieveLemmas
+pub mod PolygonizeLemmas
+pub mod OneOutcomeLemmas

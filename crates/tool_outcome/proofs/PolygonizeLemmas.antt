@@ -1,0 +1,48 @@
+-- The text of gdal_polygonize is one.
+use Rattle.std.proofs.Common.{◌≡◌, ◌∙◌, ℕ, zero, suc, ℤ, Bool, List, [], ◌∷◌, Option, Some, None, Result, Ok, Err, length, refl, sym, ap, subst, arith}
+use Rattle.std.specs.Prelude.{slice_get}
+use Rattle.cell_base.specs.Raster.{Raster}
+use Rattle.cell_base.specs.Steps.{four}
+use Rattle.asc_grid.specs.declared.grid.Asc.{Asc}
+use Rattle.region_label.specs.Labelling.{RegionTable, IsLabelling}
+use Rattle.region_label.proofs.OneLemmas.{one_labelling}
+use Rattle.ring_faces.specs.LatticePolygon.{Polygon}
+use Rattle.ring_faces.specs.Faces.{ArePolygonsOf}
+use Rattle.tool_words.specs.declared.job.PolygonizeJob.{PolygonizeJob}
+use Rattle.tool_outcome.specs.Polygonize.{HasOneLayer, IsPolygonizeText, components_of, layer_text}
+use Rattle.tool_outcome.specs.Answer.{Answer, AnswersBy}
+use Rattle.tool_outcome.specs.declared.fault.Fault.{Fault}
+use Rattle.tool_outcome.proofs.MaskLemmas.{one_mask}
+
+-- lists of one length whose members agree are the same
+same_lists : {A : Type 0} (xs ys : List A) → length xs ≡ length ys → ((k : ℕ) (x y : A) → slice_get xs k ≡ Some x → slice_get ys k ≡ Some y → x ≡ y) → xs ≡ ys
+same_lists [] [] long same = refl
+same_lists [] (y ∷ ys) long same = absurd (omega (arith, long))
+same_lists (x ∷ xs) [] long same = absurd (omega (arith, long))
+same_lists (x ∷ xs) (y ∷ ys) long same =
+    let rest : xs ≡ ys = same_lists xs ys (omega (arith, long)) (λ k a b at_a at_b. same (suc k) a b at_a at_b) in
+    ap (λ z. z ∷ xs) (same 0 x y refl refl) ∙ ap (λ zs. y ∷ zs) rest
+
+-- components have one list of polygons
+pub one_list : (regions : RegionTable) (a b : List Polygon) → ArePolygonsOf regions a → ArePolygonsOf regions b → a ≡ b
+one_list regions a b one two =
+    same_lists a b (one.count ∙ sym two.count) (λ k x y at_x at_y. (two.each k y at_y).1 x ((one.each k x at_x).0))
+
+-- the text is one
+pub one_layer : (job : PolygonizeJob) (asc : Asc ℤ) → HasOneLayer job asc
+one_layer job asc text other one two =
+    let valid = one_mask asc one.0 two.0 one.3 two.3 in
+    let labelled : IsLabelling four asc.cells one.0 two.1 = subst (λ v. IsLabelling four asc.cells v two.1) valid two.4 in
+    let regions : one.1 ≡ two.1 = one_labelling four asc.cells one.0 one.1 two.1 one.4 labelled in
+    let polygons : one.2 ≡ two.2 = one_list two.1 one.2 two.2 (subst (λ r. ArePolygonsOf r one.2) regions one.5) two.5 in
+    one.6
+    ∙ ap (λ r. layer_text job.field asc.frame (components_of asc.cells r one.2)) regions
+    ∙ ap (λ ps. layer_text job.field asc.frame (components_of asc.cells two.1 ps)) polygons
+    ∙ sym two.6
+
+-- the answer is one
+pub one_answer : (job : PolygonizeJob) (source : Result (Asc ℤ) Fault) (a b : Answer) → AnswersBy (IsPolygonizeText job) source a → AnswersBy (IsPolygonizeText job) source b → a ≡ b
+one_answer job (Err fault) a b one two = one ∙ sym two
+one_answer job (Ok asc) (Err fault) b one two = absurd one
+one_answer job (Ok asc) (Ok text) (Err fault) one two = absurd two
+one_answer job (Ok asc) (Ok text) (Ok other) one two = ap Ok (one_layer job asc text other one two)

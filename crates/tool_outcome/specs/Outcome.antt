@@ -1,0 +1,100 @@
+-- What a run is to do. Source: this project's own.
+use Rattle.std.specs.Prelude.{◌≡◌, ◌⊎◌, ℕ, Bool, true, false, not, List, [], Option, Some, Ok, Err, take}
+use Rattle.std.specs.declared.result.Result.{Result}
+use Rattle.rv_outside.specs.Files.{Files, with_file}
+use Rattle.tool_words.specs.Words.{Text}
+use Rattle.tool_words.specs.Job.{job_of}
+use Rattle.tool_words.specs.declared.fault.WordFault.{WordFault}
+use Rattle.tool_words.specs.declared.job.Job.{Job}
+use Rattle.tool_words.specs.declared.job.Job.TheVariants.{Sieve, Polygonize, Rasterize, Contour}
+use Rattle.tool_outcome.specs.Answer.{Answer}
+use Rattle.tool_outcome.specs.Message.{dest_of_job, line_of_job, line_of_words}
+use Rattle.tool_outcome.specs.Polygonize.{IsPolygonizeAnswer}
+use Rattle.tool_outcome.specs.Sieve.{IsSieveAnswer}
+use Rattle.tool_outcome.specs.Status.{status_of_fault, status_of_words}
+use Rattle.tool_outcome.specs.declared.fault.Fault.{Fault}
+use Rattle.tool_outcome.specs.declared.fault.Fault.TheVariants.{NotBuilt}
+use Rattle.tool_outcome.specs.declared.status.Status.{Status}
+use Rattle.tool_outcome.specs.declared.status.Status.TheVariants.{Done}
+
+-- how a run ends: its status, the line on standard error, the files afterwards, and what went to standard output
+pub record Outcome : Type 0 where
+  pub status : Status
+  pub line : List ℕ
+  pub files : Files
+  pub out : List ℕ
+
+-- the jobs that are built: polygons between cells that meet at a corner are not
+abbrev pub is_built : Job → Bool
+is_built (Sieve job) = true
+is_built (Polygonize job) = not job.eight
+is_built (Rasterize job) = false
+is_built (Contour job) = false
+
+-- the answer of a form that is built, and else that it is not
+abbrev pub IsAnswerIf : Bool → (Answer → Type 0) → Answer → Type 0
+IsAnswerIf true IsAnswer answer = IsAnswer answer
+IsAnswerIf false IsAnswer answer = answer ≡ Err NotBuilt
+
+-- the answer for a job
+abbrev pub IsAnswerFor : Job → Files → Answer → Type 0
+IsAnswerFor (Sieve job) files answer = IsSieveAnswer job files answer
+IsAnswerFor (Polygonize job) files answer = IsAnswerIf (not job.eight) (IsPolygonizeAnswer job files) answer
+IsAnswerFor other files answer = answer ≡ Err NotBuilt
+
+-- the end of a run whose words are refused: all files stay
+abbrev pub end_of_words : WordFault → Files → Outcome
+end_of_words fault files = record { status = status_of_words fault; line = line_of_words fault; files = files; out = [] }
+
+-- the end of a run with this answer: the destination has the text, or all files stay
+abbrev pub end_of_job : Job → Files → Answer → Outcome
+end_of_job job files (Ok text) = record { status = Done; line = []; files = with_file (dest_of_job job) text files; out = [] }
+end_of_job job files (Err fault) = record { status = status_of_fault fault; line = line_of_job job fault; files = files; out = [] }
+
+-- an outcome of what the words ask for
+abbrev pub IsOutcomeOf : Result Job WordFault → Files → Outcome → Type 0
+IsOutcomeOf (Err fault) files outcome = outcome ≡ end_of_words fault files
+IsOutcomeOf (Ok job) files outcome = (answer : Answer) × IsAnswerFor job files answer × (outcome ≡ end_of_job job files answer)
+
+-- the outcome of the program for these words and files
+abbrev pub IsOutcome : List Text → Files → Outcome → Type 0
+IsOutcome words files outcome = IsOutcomeOf (job_of words) files outcome
+
+-- words and files have at most one outcome
+abbrev pub HasOneOutcome : List Text → Files → Type 0
+HasOneOutcome words files = (a b : Outcome) → IsOutcome words files a → IsOutcome words files b → a ≡ b
+
+-- the run came to an outcome of these words and files
+abbrev pub Meets : List Text → Files → Status → List ℕ → Option Files → Type 0
+Meets words files status line now = (after : Files) × (now ≡ Some after)
+    × IsOutcome words files (record { status = status; line = line; files = after; out = [] })
+
+-- a tool came to an outcome of its job
+abbrev pub Does : Job → Files → Result (Unit {0}) Fault → Option Files → Type 0
+Does job files (Ok u) now = (text : List ℕ) × IsAnswerFor job files (Ok text)
+    × (now ≡ Some (with_file (dest_of_job job) text files))
+Does job files (Err fault) now = IsAnswerFor job files (Err fault) × (now ≡ Some files)
+
+-- the job can be done
+abbrev pub CanBeDone : Job → Files → Type 0
+CanBeDone job files = (text : List ℕ) × IsAnswerFor job files (Ok text)
+
+-- the files are as before, or the job can be done and its destination holds a first part of the text
+abbrev pub LeavesPart : Job → Files → Option Files → Type 0
+LeavesPart job files now = (now ≡ Some files) ⊎ ((text : List ℕ) × (n : ℕ) × IsAnswerFor job files (Ok text)
+    × (now ≡ Some (with_file (dest_of_job job) (take n text) files)))
+
+-- the same two of the words: words without a job leave the files as before
+
+abbrev pub WordsCanBeDone : Result Job WordFault → Files → Type 0
+WordsCanBeDone (Err fault) files = ⊥
+WordsCanBeDone (Ok job) files = CanBeDone job files
+
+abbrev pub WordsLeavePart : Result Job WordFault → Files → Option Files → Type 0
+WordsLeavePart (Err fault) files now = now ≡ Some files
+WordsLeavePart (Ok job) files now = LeavesPart job files now
+
+-- words with a job that is not built
+abbrev pub AreUnbuilt : Result Job WordFault → Type 0
+AreUnbuilt (Err fault) = ⊥
+AreUnbuilt (Ok job) = is_built job ≡ false

@@ -1,0 +1,27 @@
+// What holds of outcomes.
+ghost use Rattle.std.specs.Prelude.{ℤ, List};
+ghost use Rattle.rv_outside.specs.Files.{Files};
+ghost use Rattle.asc_grid.specs.declared.grid.Asc.{Asc};
+ghost use Rattle.tool_words.specs.Words.{Text};
+ghost use Rattle.tool_words.specs.declared.job.PolygonizeJob.{PolygonizeJob};
+ghost use Rattle.tool_words.specs.declared.job.SieveJob.{SieveJob};
+ghost use Rattle.tool_outcome.specs.Outcome.{HasOneOutcome};
+ghost use Rattle.tool_outcome.specs.Polygonize.{HasOneLayer};
+ghost use Rattle.tool_outcome.specs.Sieve.{AgreesWithSieve};
+
+/// For all words and files there is at most one outcome: one status, one line, one state of the files, one text on
+/// standard output.
+pub fn outcome_is_one()
+    ensures { (words : List Text) (files : Files) → HasOneOutcome words files }
+{}
+
+/// The cells that `gdal_sieve` writes are those of the sieved grid, at a threshold of at most 1 too.
+pub fn writes_the_sieved_grid()
+    ensures { (job : SieveJob) (asc : Asc ℤ) → AgreesWithSieve job asc }
+{}
+
+/// A grid has at most one polygonize text: each component has one canonical polygon, and all else follows from the grid.
+/// No tool writes it yet.
+pub fn polygonize_text_is_one()
+    ensures { (job : PolygonizeJob) (asc : Asc ℤ) → HasOneLayer job asc }
+{}
