@@ -1,5 +1,7 @@
 pub mod DestLemmas
-pub mod WordsLemmas
 pub mod MessageLemmas
+pub mod SieveLemmas
 pub mod SourceLemmas
-pub mod LineLemmas
+pub mod RunLemmas
+pub mod LayerLemmas
+pub mod PolygonizeLemmas

@@ -1,5 +1,6 @@
 -- Lines that a sink takes in two parts.
-use Rattle.std.proofs.Common.{◌≡◌, ◌≤◌, ◌++◌, [], ◌+◌, ℕ, List, Option, Ok, Err, IsErrOf, length, take, drop, refl, arith}
+use Rattle.std.specs.Prelude.{codes, decimal}
+use Rattle.std.proofs.Common.{append_assoc, subst, ap, sym, ◌∙◌, ◌≡◌, ◌≤◌, ◌++◌, [], ◌+◌, ℕ, List, Option, Ok, Err, IsErrOf, length, take, drop, refl, arith}
 use Rattle.std.proofs.lemmas.Grind.{common_steps}
 use Rattle.std.proofs.lemmas.List.{take-append-le}
 use Rattle.std.proofs.Math.Seq.{take-add}
@@ -8,7 +9,12 @@ use Rattle.rv_outside.specs.Causes.{Counts}
 use Rattle.rv_outside.specs.Sink.{Adds, SinkState, Says}
 use Rattle.rv_outside.specs.declared.folder.Trouble.{Trouble}
 use Rattle.rv_outside.proofs.WrittenLemmas.{adds_nothing, adds_then}
-use Rattle.tool_run.specs.Message.{SaysLine}
+use Rattle.asc_grid.specs.declared.fault.GridKind.{GridKind}
+use Rattle.asc_grid.specs.declared.fault.GridKind.TheVariants.{UnknownKeyword, RepeatedKeyword, MissingKeyword, BadNumber, OutOfRange, TooLarge, BadCell, TooFewCells, TooManyCells}
+use Rattle.asc_grid.specs.declared.fault.GridFault.TheVariants as grid
+use Rattle.tool_outcome.specs.Message.{grid_text, line_of_grid}
+use Rattle.tool_run.specs.Inner.Steps.{grid_number, grid_words}
+use Rattle.tool_run.specs.Line.{SaysLine}
 
 -- all of the first part, and some of the second
 adds_second : (before mid now : Option (List ℕ)) (first second : List ℕ) (n : ℕ) → n ≤ length second → Adds before mid first → Adds mid now (take n second) → (m : ℕ) × (m ≤ length (first ++ second)) × Adds before now (take m (first ++ second))
@@ -70,3 +76,27 @@ says_nothing state = (
     };
   },
 )
+
+-- what is wrong with a grid, in its two parts
+text_parts : (kind : GridKind) → grid_text kind ≡ grid_words kind ++ grid_number kind
+text_parts UnknownKeyword = refl
+text_parts RepeatedKeyword = refl
+text_parts MissingKeyword = refl
+text_parts BadNumber = refl
+text_parts OutOfRange = refl
+text_parts (TooLarge cells) = refl
+text_parts BadCell = refl
+text_parts TooFewCells = refl
+text_parts TooManyCells = refl
+
+-- the line of an offence, in the parts that are handed over
+pub offence_parts : (name : List ℕ) (line : ℕ) (kind : GridKind) → (name ++ codes ": line " ++ decimal line) ++ (codes ": " ++ grid_words kind ++ grid_number kind) ++ codes "\n" ≡ line_of_grid name (grid.At kind line)
+offence_parts name line kind =
+    let first : List ℕ = name ++ codes ": line " ++ decimal line in
+    let words : (codes ": " ++ grid_words kind) ++ grid_number kind ≡ codes ": " ++ grid_text kind =
+    append_assoc (codes ": ") (grid_words kind) (grid_number kind) ∙ ap (λ t. codes ": " ++ t) (sym (text_parts kind)) in
+    ap (λ t. t ++ codes "\n") (ap (λ t. first ++ t) words ∙ sym (append_assoc first (codes ": ") (grid_text kind)))
+
+-- the same text in other parts
+pub says_same : (text line : List ℕ) (r : Result (Unit {0}) Trouble) (old new : SinkState) → text ≡ line → Says text r old new → Says line r old new
+says_same text line r old new is says = subst (λ l. Says l r old new) is says

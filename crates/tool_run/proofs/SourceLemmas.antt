@@ -5,9 +5,9 @@ use Rattle.asc_grid.specs.Grid.{grid_of}
 use Rattle.asc_grid.specs.declared.grid.Asc.{Asc}
 use Rattle.asc_grid.specs.declared.fault.GridFault.{GridFault}
 use Rattle.asc_grid.specs.declared.fault.GridFault.TheVariants.{At, NoMemory}
-use Rattle.tool_run.specs.Fault.{of_grid}
-use Rattle.tool_run.specs.Source.{cell_of, source_of}
-use Rattle.tool_run.specs.Status.{IsDecided, status_of_fault}
+use Rattle.tool_outcome.specs.Fault.{of_grid}
+use Rattle.tool_outcome.specs.Source.{cell_of, source_of}
+use Rattle.tool_outcome.specs.Status.{IsDecided, status_of_fault}
 
 pub source_read : (old : Option Files) (name text : List ℕ) (asc : Asc ℤ) → IfSome old (λ files. files name ≡ Some text) → grid_of cell_of text ≡ Ok asc → IfSome old (λ files. Ok asc ≡ source_of (files name))
 source_read None name text asc bytes is = tt

@@ -2,8 +2,8 @@
 use Rattle.std.specs.Prelude.{◌≡◌}
 use Rattle.rv_outside.specs.Causes.{Counts}
 use Rattle.rv_outside.specs.Folder.{FolderState}
-use Rattle.tool_run.specs.declared.status.Status.{Status}
-use Rattle.tool_run.specs.declared.status.Status.TheVariants.{Missing, ReadFault, WriteFault}
+use Rattle.tool_outcome.specs.declared.status.Status.{Status}
+use Rattle.tool_outcome.specs.declared.status.Status.TheVariants.{Missing, ReadFault, WriteFault}
 
 -- each fault of the folder was counted, once, and no count rose without its status
 pub record HasCauses (status : Status) (old new : FolderState) : Type 0 where

@@ -1,2 +1,3 @@
-pub mod Refused
 pub mod Steps
+pub mod Rows
+pub mod Layer

@@ -1,20 +1,23 @@
 //! The program but for its `main`: from its words and a folder of files to a status, the files afterwards
 //! and one line on standard error.
 //!
-//! `run` is the top call. Its contract names the whole outcome of a run, which `specs/Outcome.antt`
-//! defines, and its line, which `specs/Message.antt` does.
+//! `run` is the top call. Its contract names the whole outcome of a run, which the crate `tool_outcome`
+//! defines from the words and the files. Each tool has a file; `jobs` is the table of tools.
 #![tactic(auto)]
 
-mod fault;
+mod grid_file;
+mod jobs;
 mod message;
+mod pieces;
+mod polygons;
 mod program;
-mod read_words;
 mod sieve;
-mod status;
-mod words;
 
-pub use fault::{Fault, Role};
+pub use polygons::polygonize;
 pub use program::run;
 pub use sieve::sieve_tool;
-pub use status::Status;
-pub use words::{MaskFrom, Name, SieveJob, Words};
+pub use tool_outcome::{Fault, Role, Status};
+pub use tool_words::{
+    ContourJob, Job, MaskFrom, MicroList, Name, PolygonizeJob, RasterizeJob, SieveJob, SizeFrom,
+    ValueFrom, WordFault, WordKind, Words, read_words,
+};

@@ -1,11 +1,16 @@
 // The line on standard error.
 ghost use Rattle.std.specs.Prelude.{◌≡◌, ◌++◌};
 ghost use Rattle.rv_outside.specs.Sink.{Says};
-ghost use Rattle.tool_run.specs.Message.{SaysLine, kind_number, kind_words, offence_line};
+ghost use Rattle.asc_grid.specs.declared.fault.GridFault.TheVariants.{At};
+ghost use Rattle.tool_outcome.specs.Message.{grid_text, line_of_grid, line_of_words, word_text};
+ghost use Rattle.tool_words.specs.declared.fault.WordFault.TheVariants.{At as AtWord};
+ghost use Rattle.tool_run.specs.Inner.Steps.{grid_number, grid_words};
+ghost use Rattle.tool_run.specs.Line.{SaysLine};
 
 use asc_grid::GridKind;
 use itoa::Buffer;
 use rv_outside::{Sink, Trouble, say};
+use tool_words::WordKind;
 
 // Hands three texts to a sink, one after the other, so that the line takes no memory.
 fn say_three<S: Sink>(sink: &mut S, a: &[u8], b: &[u8], c: &[u8]) -> Result<(), Trouble>
@@ -24,8 +29,46 @@ pub fn say_line<S: Sink>(sink: &mut S, name: &str, text: &str)
     let _ = say_three(sink, name.as_bytes(), text.as_bytes(), b"");
 }
 
+fn word_text(kind: WordKind) -> &'static str
+    ensures { result.now ≡ word_text kind }
+{
+    match kind {
+        WordKind::NoTool => "no tool",
+        WordKind::UnknownTool => "unknown tool",
+        WordKind::UnknownOption => "unknown option",
+        WordKind::MissingValue => "missing value",
+        WordKind::BadValue => "bad value",
+        WordKind::MissingName => "missing name",
+        WordKind::ExtraWord => "extra word",
+        WordKind::Combination => "bad combination",
+    }
+}
+
+fn word_said<S: Sink>(sink: &mut S, kind: WordKind, place: u64) -> Result<(), Trouble>
+    ensures { Says (line_of_words (AtWord kind place)) result (S.state sink.old) (S.state sink.new) }
+{
+    let mut digits = Buffer::new();
+    let place = digits.format(place).as_bytes();
+    say_three(
+        sink,
+        b"gdal_tools: ",
+        word_text(kind).as_bytes(),
+        b" at word ",
+    )?;
+    say(sink, place)?;
+    say(sink, b"\n")?;
+    Ok(())
+}
+
+/// Writes the line of refused words. A sink that fails is let be.
+pub fn say_word<S: Sink>(sink: &mut S, kind: WordKind, place: u64)
+    ensures { SaysLine (line_of_words (AtWord kind place)) (S.state sink.old) (S.state sink.new) }
+{
+    let _ = word_said(sink, kind, place);
+}
+
 fn words_of(kind: GridKind) -> &'static str
-    ensures { result.now ≡ kind_words kind }
+    ensures { result.now ≡ grid_words kind }
 {
     match kind {
         GridKind::UnknownKeyword => "unknown keyword",
@@ -41,7 +84,7 @@ fn words_of(kind: GridKind) -> &'static str
 }
 
 fn number_of(kind: GridKind, buffer: &mut Buffer) -> &str
-    ensures { result.now ≡ kind_number kind }
+    ensures { result.now ≡ grid_number kind }
 {
     match kind {
         GridKind::TooLarge(cells) => buffer.format(cells),
@@ -50,7 +93,7 @@ fn number_of(kind: GridKind, buffer: &mut Buffer) -> &str
 }
 
 fn offence_said<S: Sink>(sink: &mut S, name: &str, line: u64, kind: GridKind) -> Result<(), Trouble>
-    ensures { Says (offence_line name.now line kind) result (S.state sink.old) (S.state sink.new) }
+    ensures { Says (line_of_grid name.now (At kind line)) result (S.state sink.old) (S.state sink.new) }
 {
     let mut digits = Buffer::new();
     let mut cells = Buffer::new();
@@ -65,7 +108,7 @@ fn offence_said<S: Sink>(sink: &mut S, name: &str, line: u64, kind: GridKind) ->
 
 /// Writes the line of a grid's offence. A sink that fails is let be.
 pub fn say_offence<S: Sink>(sink: &mut S, name: &str, line: u64, kind: GridKind)
-    ensures { SaysLine (offence_line name.now line kind) (S.state sink.old) (S.state sink.new) }
+    ensures { SaysLine (line_of_grid name.now (At kind line)) (S.state sink.old) (S.state sink.new) }
 {
     let _ = offence_said(sink, name, line, kind);
 }

@@ -1,38 +1,31 @@
 // The top call.
-ghost use Rattle.std.specs.Prelude.{◌≡◌, ◌≢◌, None, true, false, IfSome, List, ℕ};
+ghost use Rattle.std.specs.Prelude.{◌≡◌, ◌≢◌, ◌⊎◌, IfSome, IsErr, List, ℕ};
+ghost use Rattle.tool_outcome.specs.Message.{IsLine, line_of_answer, line_of_grid, line_of_words};
+ghost use Rattle.tool_outcome.specs.Outcome.{AreUnbuilt, Meets, WordsCanBeDone, WordsLeavePart};
+ghost use Rattle.tool_outcome.specs.Status.{IsDecided, status_of, status_of_grid, status_of_kind, status_of_words};
+ghost use Rattle.tool_words.specs.Job.{job_of};
 ghost use Rattle.tool_run.specs.Causes.{HasCauses};
-ghost use Rattle.tool_run.specs.Inner.Refused.{status_of_words};
-ghost use Rattle.tool_run.specs.Message.{IsLine, SaysLine, line_of_answer, line_of_grid, line_of_words};
-ghost use Rattle.tool_run.specs.Outcome.{Meets, RunLeavesPart, outcome};
-ghost use Rattle.tool_run.specs.Status.{IsDecided, status_of, status_of_grid, status_of_kind};
-ghost use Rattle.tool_run.specs.Words.{begins_with_tool, dest_of, sieve_job_of};
+ghost use Rattle.tool_run.specs.Line.{SaysLine};
 
-use crate::message::{say_line, say_offence};
-use crate::read_words::{WordsFault, read_words};
-use crate::{Fault, SieveJob, Status, Words, sieve_tool};
+use crate::jobs::{dest_name, do_job, source_name};
+use crate::message::{say_line, say_offence, say_word};
 use asc_grid::{GridFault, GridKind};
 use rv_outside::{Folder, Sink};
 use std::alloc::Global;
+use tool_outcome::{Fault, Status};
+use tool_words::{WordFault, Words, read_words};
 
-// Says that the words have no job.
-fn refuse<E: Sink>(fault: WordsFault, err: &mut E) -> Status
+// Says why the words have no job.
+fn refuse<E: Sink>(fault: WordFault, err: &mut E) -> Status
     ensures status { result ≡ status_of_words fault }
     ensures line { SaysLine (line_of_words fault) (E.state err.old) (E.state err.new) }
 {
     match fault {
-        WordsFault::NoTool => {
-            say_line(err, "gdal_tools", ": no tool at word 1\n");
+        WordFault::At { kind, place } => {
+            say_word(err, kind, place);
             Status::Usage
         }
-        WordsFault::UnknownTool => {
-            say_line(err, "gdal_tools", ": unknown tool at word 1\n");
-            Status::Usage
-        }
-        WordsFault::NotBuilt => {
-            say_line(err, "", "not built\n");
-            Status::NotBuilt
-        }
-        WordsFault::NoMemory => {
+        WordFault::NoMemory => {
             say_line(err, "", "out of memory\n");
             Status::NoMemory
         }
@@ -40,13 +33,13 @@ fn refuse<E: Sink>(fault: WordsFault, err: &mut E) -> Status
 }
 
 // Says why the source has no grid.
-fn say_grid<E: Sink>(job: &SieveJob, fault: GridFault, err: &mut E) -> Status
+fn say_grid<E: Sink>(source: &str, fault: GridFault, err: &mut E) -> Status
     ensures status { result ≡ status_of_grid fault }
-    ensures line { SaysLine (line_of_grid job.now.source fault) (E.state err.old) (E.state err.new) }
+    ensures line { SaysLine (line_of_grid source.now fault) (E.state err.old) (E.state err.new) }
 {
     match fault {
         GridFault::At { kind, line } => {
-            say_offence(err, job.source.as_str(), line, kind);
+            say_offence(err, source, line, kind);
             status_of_kind(kind)
         }
         GridFault::NoMemory => {
@@ -65,24 +58,24 @@ fn status_of_kind(kind: GridKind) -> Status
     }
 }
 
-// Says how a job ended, where it was not done.
-fn report<E: Sink>(job: &SieveJob, answer: Result<(), Fault>, err: &mut E) -> Status
+// Says how a job ended, where it was not done, by the names of its source and its destination.
+fn report<E: Sink>(source: &str, dest: &str, answer: Result<(), Fault>, err: &mut E) -> Status
     ensures status { result ≡ status_of answer }
-    ensures line { SaysLine (line_of_answer job.now answer) (E.state err.old) (E.state err.new) }
+    ensures line { SaysLine (line_of_answer source.now dest.now answer) (E.state err.old) (E.state err.new) }
 {
     match answer {
         Ok(()) => Status::Done,
         Err(Fault::Missing(_)) => {
-            say_line(err, job.source.as_str(), ": no such file\n");
+            say_line(err, source, ": no such file\n");
             Status::Missing
         }
         Err(Fault::ReadFault(_)) => {
-            say_line(err, job.source.as_str(), ": read failed\n");
+            say_line(err, source, ": read failed\n");
             Status::ReadFault
         }
-        Err(Fault::Grid(_, offence)) => say_grid(job, offence, err),
+        Err(Fault::Grid(_, offence)) => say_grid(source, offence, err),
         Err(Fault::WriteFault) => {
-            say_line(err, job.dest.as_str(), ": write failed\n");
+            say_line(err, dest, ": write failed\n");
             Status::WriteFault
         }
         Err(Fault::NotBuilt) => {
@@ -99,9 +92,9 @@ fn report<E: Sink>(job: &SieveJob, answer: Result<(), Fault>, err: &mut E) -> St
 /// Does all that the program does: it takes the words after the program's name, works in the folder, writes
 /// at most one line to `err`, and answers the status. Nothing goes to `out` yet.
 ///
-/// Where the folder tells its files, the status and the files afterwards are those of the outcome, unless
-/// a call of the folder failed or memory ran out; then the files are as before, or the destination holds
-/// a first part of its bytes.
+/// Where the folder tells its files, the status, the line and the files afterwards are those of the outcome,
+/// unless a call of the folder failed or memory ran out; then the files are as before, or the destination
+/// holds a first part of its bytes.
 pub fn run<F: Folder, O: Sink, E: Sink>(
     alloc: Global,
     words: &Words,
@@ -109,31 +102,29 @@ pub fn run<F: Folder, O: Sink, E: Sink>(
     out: &mut O,
     err: &mut E,
 ) -> Status
-    ensures outcome { IsDecided result → IfSome (F.state folder.old).files
-        (λ files. Meets (outcome words.now files) result (F.state folder.new).files) }
+    ensures outcome { (line : List ℕ) × IsLine (job_of words.now) result line × SaysLine line (E.state err.old) (E.state err.new)
+        × (IsDecided result → IfSome (F.state folder.old).files (λ files. Meets words.now files result line (F.state folder.new).files)) }
     ensures part { result ≢ Status.Done → IfSome (F.state folder.old).files
-        (λ files. RunLeavesPart (outcome words.now files) (dest_of words.now) files (F.state folder.new).files) }
+        (λ files. WordsLeavePart (job_of words.now) files (F.state folder.new).files) }
 
     // The words alone decide these, whatever the folder.
-    ensures usage { begins_with_tool words.now ≡ false → result ≡ Status.Usage }
-    ensures not_usage { result ≡ Status.Usage → begins_with_tool words.now ≡ false }
-    ensures not_built { sieve_job_of words.now ≡ None → begins_with_tool words.now ≡ true → result ≡ Status.NotBuilt }
-    ensures built { result ≡ Status.NotBuilt → sieve_job_of words.now ≡ None }
-    ensures untouched { sieve_job_of words.now ≡ None → folder.new ≡ folder.old }
+    ensures usage { IsErr (job_of words.now) → result ≡ Status.Usage }
+    ensures not_usage { result ≡ Status.Usage → IsErr (job_of words.now) }
+    ensures not_built { AreUnbuilt (job_of words.now) → (result ≡ Status.NotBuilt) ⊎ (result ≡ Status.NoMemory) }
+    ensures built { result ≡ Status.NotBuilt → AreUnbuilt (job_of words.now) }
+    ensures refused { IsErr (job_of words.now) → folder.new ≡ folder.old }
+    ensures untouched { AreUnbuilt (job_of words.now) → folder.new ≡ folder.old }
 
     // Each fault of the folder has its cause, and no call that failed is passed over.
     ensures causes { HasCauses result (F.state folder.old) (F.state folder.new) }
     ensures read_same { result ≡ Status.ReadFault → (F.state folder.new).files ≡ (F.state folder.old).files }
-    ensures write_done { result ≡ Status.WriteFault → IfSome (F.state folder.old).files (λ files. (outcome words.now files).status ≡ Status.Done) }
-
-    ensures line { (line : List ℕ) × IsLine words.now result line × SaysLine line (E.state err.old) (E.state err.new)
-        × (IsDecided result → IfSome (F.state folder.old).files (λ files. line ≡ (outcome words.now files).line)) }
+    ensures write_done { result ≡ Status.WriteFault → IfSome (F.state folder.old).files (WordsCanBeDone (job_of words.now)) }
     ensures out { out.new ≡ out.old }
 {
     let job = match read_words(alloc, words) {
         Ok(job) => job,
         Err(fault) => return refuse(fault, err),
     };
-    let answer = sieve_tool(alloc, &job, folder);
-    report(&job, answer, err)
+    let answer = do_job(alloc, &job, folder);
+    report(source_name(&job), dest_name(&job), answer, err)
 }

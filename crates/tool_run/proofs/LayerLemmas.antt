@@ -1,0 +1,129 @@
+-- The rows of a layer, one by one.
+use Rattle.std.proofs.Common.{◌≡◌, ◌∙◌, ◌<◌, ◌≤◌, ◌+◌, ◌^◌, ◌++◌, ◌∷◌, [], ℕ, ℤ, Bool, zero, suc, List, Option, Some, None, All, length, map, take, drop, get_or, ap, refl, sym, subst, arith, append_assoc}
+use Rattle.std.specs.Prelude.{slice_get, option_map, unwrap_or}
+use Rattle.std.specs.List.{flat_map, zip}
+use Rattle.std.proofs.lemmas.Grind.{common_steps}
+use Rattle.std.proofs.lemmas.List.{length-map, map-append}
+use Rattle.std.proofs.lemmas.List.Elements.{All-from_get_or, All-get_or, All-map}
+use Rattle.std.proofs.lemmas.Option.{gets, get_or_from_slice_get, none-some, same_Some, slice_get-map, slice_get_within}
+use Rattle.cell_base.specs.Raster.{Raster}
+use Rattle.cell_base.specs.Steps.{four}
+use Rattle.geo_transform.specs.declared.frame.Frame.{Frame}
+use Rattle.asc_grid.specs.declared.grid.Asc.{Asc}
+use Rattle.region_label.specs.Labelling.{IsLabelling, RegionTable}
+use Rattle.ring_faces.specs.Ring.{Ring}
+use Rattle.ring_faces.specs.LatticePolygon.{Polygon, rings_of}
+use Rattle.ring_faces.specs.Faces.{ArePolygonsOf, FitsGrid}
+use Rattle.ring_faces.proofs.FitLemmas.{fits_grid}
+use Rattle.wkt_text.specs.Geometry.{IsRing, last_from}
+use Rattle.wkt_text.specs.declared.geometry.Pt.{Pt}
+use Rattle.ogr_csv.specs.Rows.{line_of}
+use Rattle.tool_outcome.specs.Polygonize.{path_of, paths_of, point_of, row_of, value_of}
+use Rattle.tool_run.specs.Inner.Layer.{rows_left}
+use Rattle.tool_run.specs.Inner.Rows.{AreRowsOver}
+use Rattle.tool_run.specs.Inner.Steps.{IsOverFrame}
+use Rattle.tool_run.specs.declared.polygons.Layer.{Layer}
+use Rattle.tool_words.specs.Words.{Text}
+
+-- a fact of all members is one of each
+pub all_at : {A : Type 0} (P : A → Type 0) (xs : List A) (i : ℕ) (x : A) → slice_get xs i ≡ Some x → All P xs → P x
+all_at P xs i x is all = subst P (get_or_from_slice_get xs i x x is) (All-get_or P xs i x (slice_get_within xs i x is) all)
+
+-- the member that a slice has at an index
+pub some_at : {A : Type 0} (xs : List A) (i : ℕ) (d : A) → i < length xs → slice_get xs i ≡ Some (get_or xs i d)
+some_at xs i d inside = grind (arith, common_steps, gets, inside)
+
+pub slice_at : {A B : Type 0} (f : A → B) (xs : List A) (ys : List B) (i : ℕ) (d : A) → map f xs ≡ ys → i < length xs → slice_get ys i ≡ Some (f (get_or xs i d))
+slice_at f xs ys i d is inside = ap (λ l. slice_get l i) (sym is) ∙ slice_get-map f xs i ∙ ap (option_map f) (some_at xs i d inside)
+
+-- one member more
+pub take_more : {A : Type 0} (xs : List A) (i : ℕ) (x : A) → slice_get xs i ≡ Some x → take (i + 1) xs ≡ take i xs ++ x ∷ []
+take_more xs i x is = grind (arith, common_steps, gets, is)
+
+pub map_more : {A B : Type 0} (f : A → B) (xs : List A) (i : ℕ) (x : A) → slice_get xs i ≡ Some x → map f (take (i + 1) xs) ≡ map f (take i xs) ++ f x ∷ []
+map_more f xs i x is = ap (map f) (take_more xs i x is) ∙ map-append f (take i xs) (x ∷ [])
+
+-- the first member again at the end
+pub closes : {A B : Type 0} (f : A → B) (xs : List A) (x : A) → slice_get xs 0 ≡ Some x → map f xs ++ f x ∷ [] ≡ map f (xs ++ take 1 xs)
+closes f [] x is = absurd (none-some x is)
+closes f (y ∷ ys) x is = ap (λ z. map f (y ∷ ys) ++ f z ∷ []) (sym (same_Some y x is)) ∙ sym (map-append f (y ∷ ys) (y ∷ []))
+
+pub closes_none : {A B : Type 0} (f : A → B) (xs : List A) → slice_get xs 0 ≡ None → map f xs ≡ map f (xs ++ take 1 xs)
+closes_none f [] is = refl
+closes_none f (y ∷ ys) is = absurd (none-some y (sym is))
+
+-- a member, and the members behind it
+pub drop_at : {A : Type 0} (xs : List A) (i : ℕ) (x : A) → slice_get xs i ≡ Some x → drop i xs ≡ x ∷ drop (i + 1) xs
+drop_at [] i x is = absurd (none-some x is)
+drop_at (y ∷ ys) zero x is = ap (λ z. z ∷ ys) (same_Some y x is)
+drop_at (y ∷ ys) (suc i) x is =
+    let next : suc (i + 1) ≡ suc i + 1 = omega arith in
+    drop_at ys i x is ∙ ap (λ n. x ∷ drop n (y ∷ ys)) next
+
+pub zip_at : {A B : Type 0} (xs : List A) (ys : List B) (i : ℕ) (x : A) (y : B) → slice_get xs i ≡ Some x → slice_get ys i ≡ Some y → slice_get (zip xs ys) i ≡ Some (x, y)
+zip_at [] ys i x y at_x at_y = absurd (none-some x at_x)
+zip_at (a ∷ xs) [] i x y at_x at_y = absurd (none-some y at_y)
+zip_at (a ∷ xs) (b ∷ ys) zero x y at_x at_y = ap (λ p. Some (p, b)) (same_Some a x at_x) ∙ ap (λ q. Some (x, q)) (same_Some b y at_y)
+zip_at (a ∷ xs) (b ∷ ys) (suc i) x y at_x at_y = zip_at xs ys i x y at_x at_y
+
+-- the text of rows from one on is its text and that of the rows behind it
+pub row_and_rest : {A : Type 0} (row : A → List Text) (xs : List A) (i : ℕ) (x : A) (before : List ℕ) → slice_get xs i ≡ Some x
+    → before ++ flat_map line_of (drop i (map row xs)) ≡ (before ++ line_of (row x)) ++ flat_map line_of (drop (i + 1) (map row xs))
+row_and_rest row xs i x before is =
+    let at : slice_get (map row xs) i ≡ Some (row x) = slice_get-map row xs i ∙ ap (option_map row) is in
+    ap (λ rows. before ++ flat_map line_of rows) (drop_at (map row xs) i (row x) at)
+    ∙ sym (append_assoc before (line_of (row x)) (flat_map line_of (drop (i + 1) (map row xs))))
+
+-- rings that are written
+
+last_added : (p q : Pt) (path : List Pt) → last_from p (path ++ q ∷ []) ≡ q
+last_added p q [] = refl
+last_added p q (r ∷ path) = last_added r q path
+
+closed_path : (frame : Frame) (ring : Ring) → 4 ≤ length ring → IsRing (path_of frame ring)
+closed_path frame [] long = absurd (omega (arith, long))
+closed_path frame (first ∷ others) long =
+    let ends : map (point_of frame) (others ++ first ∷ []) ≡ map (point_of frame) others ++ point_of frame first ∷ [] = map-append (point_of frame) others (first ∷ []) in
+    record {
+      long = grind (arith, common_steps, long);
+      closed = sym (ap (last_from (point_of frame first)) ends ∙ last_added (point_of frame first) (point_of frame first) (map (point_of frame) others));
+    }
+
+-- the rings of a polygon that fits can be written
+pub closed_paths : (frame : Frame) (polygon : Polygon) → FitsGrid frame.nrows frame.ncols polygon → All IsRing (paths_of frame polygon)
+closed_paths frame polygon fits =
+    let each : All (λ ring. IsRing (path_of frame ring)) (rings_of polygon) =
+    All-from_get_or (λ ring. IsRing (path_of frame ring)) (rings_of polygon) [] (λ i inside. closed_path frame (get_or (rings_of polygon) i []) (All-get_or (λ ring. 4 ≤ length ring) (rings_of polygon) i [] inside fits.long)) in
+    All-map IsRing (path_of frame) (rings_of polygon) each
+
+-- the values and polygons of a grid's components fit its frame
+pub rows_over : (asc : Asc ℤ) (valid : Raster Bool) (regions : RegionTable) (values : List ℤ) (polygons : List Polygon) → IsOverFrame asc → IsLabelling four asc.cells valid regions → ArePolygonsOf regions polygons → values ≡ map (value_of asc.cells) regions.firsts → length regions.firsts < 2 ^ 32 → AreRowsOver asc.frame values polygons
+rows_over asc valid regions values polygons over labelled are values_are few =
+    let rows : regions.numbers.nrows ≡ asc.frame.nrows = labelled.numbers.nrows ∙ over.nrows in
+    let cols : regions.numbers.ncols ≡ asc.frame.ncols = labelled.numbers.ncols ∙ over.ncols in
+    let none : Polygon = record { shell = []; holes = [] } in
+    let fit : (i : ℕ) → i < length polygons → FitsGrid asc.frame.nrows asc.frame.ncols (get_or polygons i none) = λ i inside.
+    subst (λ r. FitsGrid r asc.frame.ncols (get_or polygons i none)) rows (subst (λ c. FitsGrid regions.numbers.nrows c (get_or polygons i none)) cols (fits_grid regions i (get_or polygons i none) labelled.numbers.second ((are.each i (get_or polygons i none) (some_at polygons i none inside)).0))) in
+    let long : length values ≡ length regions.firsts = ap length values_are ∙ length-map regions.firsts (value_of asc.cells) in
+    record {
+      over = over.frame;
+      sized = long ∙ sym are.count;
+      few = omega (arith, few, are.count);
+      fit = All-from_get_or (FitsGrid asc.frame.nrows asc.frame.ncols) polygons none fit;
+    }
+
+-- behind the last row nothing is left
+
+no_longer : {A B : Type 0} (xs : List A) (ys : List B) → length (zip xs ys) ≤ length xs
+no_longer [] ys = omega arith
+no_longer (x ∷ xs) [] = omega arith
+no_longer (x ∷ xs) (y ∷ ys) = omega (arith, no_longer xs ys)
+
+drop_past : {A : Type 0} (xs : List A) (n : ℕ) → length xs ≤ n → drop n xs ≡ []
+drop_past xs n past = grind (arith, common_steps, past)
+
+pub none_left : (layer : Layer) (next : ℕ) → length layer.values.items ≤ next → rows_left layer next ≡ []
+none_left layer next past =
+    let components = zip layer.values.items layer.faces in
+    let long : length (map (row_of layer.frame) components) ≤ next = omega (arith, length-map components (row_of layer.frame), no_longer layer.values.items layer.faces, past) in
+    ap (flat_map line_of) (drop_past (map (row_of layer.frame) components) next long)

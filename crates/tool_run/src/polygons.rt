@@ -1,0 +1,291 @@
+// The tool gdal_polygonize.
+ghost use Rattle.std.specs.Prelude.{◌≡◌, ◌++◌, ◌+◌, ◌<◌, ◌≤◌, ◌^◌, All, Bool, Some, true, IfErr, IfOk, IsTrue, slice_get, IfSome, IsErrOf, OnErr, OnOk, length, map};
+ghost use Rattle.std.specs.List.{zip};
+ghost use Rattle.cell_base.specs.Raster.{Raster};
+ghost use Rattle.cell_base.specs.Steps.{four};
+ghost use Rattle.fixed_coord.specs.Shortest.{shortest};
+ghost use Rattle.geo_transform.specs.Frame.{IsFrame};
+ghost use Rattle.region_label.specs.Labelling.{IsLabelling};
+ghost use Rattle.ring_faces.specs.Faces.{AreJoinedBySides, ArePolygonsOf, FitsGrid, IsCornerOf, polygon_of};
+ghost use Rattle.ogr_csv.specs.Rows.{line_of};
+ghost use Rattle.tool_outcome.specs.Outcome.{CanBeDone, Does, LeavesPart};
+ghost use Rattle.tool_outcome.specs.Polygonize.{header_row, path_of, paths_of, point_of, row_of, value_of};
+ghost use Rattle.tool_outcome.specs.Status.{IsDecided, status_of};
+ghost use Rattle.tool_run.specs.Causes.{HasCauses};
+ghost use Rattle.tool_run.specs.Inner.Rows.{AreRowsOver, AreTraced};
+ghost use Rattle.tool_run.specs.Inner.Layer.{HasRow, IsPolygonText, layer_left, rows_left};
+ghost use Rattle.rv_outside.specs.Files.{Becomes, with_file};
+ghost use Rattle.rv_outside.specs.Folder.{OnlyWrites};
+ghost use Rattle.tool_run.specs.Inner.Steps.{IsOverFrame, IsPartWritten, IsWriteFault};
+
+use crate::grid_file::read_source;
+use crate::pieces::{Pieces, write_text};
+use asc_grid::Asc;
+use cell_base::{Cell, Grid, Mask};
+use edge_trace::{Corner, EdgeTable};
+use geo_transform::Frame;
+use ogr_csv::RowsText;
+use region_label::{Regions, label};
+use ring_faces::{Faces, LatticePolygon, Ring};
+use rv_outside::Folder;
+use std::alloc::{AllocError, Global};
+use tool_outcome::{Fault, Status};
+use tool_words::{Job, PolygonizeJob};
+use wkt_text::{Geometry, Path, Pt, Rings, write_geometry};
+
+// The components of a grid: the value and the polygon of each, by number.
+#[derive(Drop)]
+struct Layer {
+    frame: Frame,
+    values: Vec<i64>,
+    faces: Faces,
+}
+
+// The value of each component, by its first cell.
+fn values_of(alloc: Global, cells: &Grid<i64>, regions: &Regions) -> Result<Vec<i64>, AllocError>
+    requires { (valid : Raster Bool) × IsLabelling four cells.now valid regions.now }
+    ensures values { IfOk result (λ values. values.items ≡ map (value_of cells.now) regions.now.firsts) }
+    ensures few { length regions.now.firsts < 2 ^ 32 }
+{
+    let mut values = Vec::with_capacity(alloc, regions.count() as usize)?;
+    'components: for k in 0..regions.count() {
+        let (row, col) = regions.first(k);
+        values.push(cells.get(row, col))?;
+    }
+    Ok(values)
+}
+
+// The polygons of components.
+fn faces_of(alloc: Global, regions: &Regions) -> Result<Faces, AllocError>
+    requires { AreJoinedBySides regions.now }
+    ensures { IfOk result (ArePolygonsOf regions.now) }
+{
+    let edges = EdgeTable::build(alloc, regions)?;
+    let faces = Faces::assemble(alloc, edges, regions)?;
+    Ok(faces)
+}
+
+// The layer of a grid, whose cells are let go before its edges are traced.
+fn layer_of(alloc: Global, asc: Asc<i64>) -> Result<Layer, AllocError>
+    requires { IsOverFrame asc }
+    ensures frame { IfOk result (λ layer. layer.frame ≡ asc.frame) }
+    ensures rows { IfOk result (λ layer. AreRowsOver layer.frame layer.values.items layer.faces) }
+    ensures traced { IfOk result (λ layer. AreTraced asc layer.values.items layer.faces) }
+{
+    let frame = asc.frame;
+    let valid = Mask::valid_of(alloc, &asc.cells, asc.nodata)?;
+    let regions = label::<i64, false>(alloc, &asc.cells, &valid)?;
+    let values = values_of(alloc, &asc.cells, &regions)?;
+    drop(valid);
+    drop(asc);
+    let faces = faces_of(alloc, &regions)?;
+    Ok(Layer {
+        frame,
+        values,
+        faces,
+    })
+}
+
+// The point of a corner.
+fn point_of(frame: &Frame, corner: Corner) -> Pt
+    requires frame { IsFrame frame.now }
+    requires corner { IsCornerOf frame.now.nrows frame.now.ncols (corner.row, corner.col) }
+    ensures { result ≡ point_of frame.now (corner.row, corner.col) }
+{
+    let (x, y) = frame.corner(corner.row, corner.col);
+    Pt { x, y }
+}
+
+// The points of a ring, the first again at the end.
+fn path_of(alloc: Global, frame: &Frame, ring: &Ring) -> Result<Path, AllocError>
+    requires frame { IsFrame frame.now }
+    requires corners { All (IsCornerOf frame.now.nrows frame.now.ncols) ring.now }
+    ensures { IfOk result (λ path. path ≡ path_of frame.now ring.now) }
+{
+    let mut path = Path::new(alloc);
+    'corners: for corner in ring.as_slice() {
+        path.push(point_of(frame, *corner))?;
+    }
+    let Some(first) = ring.get(0) else {
+        return Ok(path);
+    };
+    path.push(point_of(frame, *first))?;
+    Ok(path)
+}
+
+// The points of a polygon's rings, the shell first.
+fn paths_of(alloc: Global, frame: &Frame, polygon: &LatticePolygon) -> Result<Rings, AllocError>
+    requires frame { IsFrame frame.now }
+    requires fits { FitsGrid frame.now.nrows frame.now.ncols (polygon_of polygon.now) }
+    ensures { IfOk result (λ paths. paths ≡ paths_of frame.now (polygon_of polygon.now)) }
+{
+    let mut paths = Rings::new(alloc);
+    paths.push(path_of(alloc, frame, &polygon.shell)?)?;
+    'holes: for hole in polygon.holes.as_slice() {
+        paths.push(path_of(alloc, frame, hole)?)?;
+    }
+    Ok(paths)
+}
+
+// The text of a value.
+fn number_text(alloc: Global, value: i64) -> Result<Vec<u8>, AllocError>
+    ensures { IfOk result (λ text. text.items ≡ shortest value 0) }
+{
+    let mut text = Vec::new(alloc);
+    <i64 as Cell>::write(value, &mut text)?;
+    Ok(text)
+}
+
+// The two fields of a component's row.
+#[derive(Drop)]
+struct Row {
+    wkt: Vec<u8>,
+    value: Vec<u8>,
+}
+
+impl Layer {
+    // The text of the polygon of a component.
+    fn polygon_text(&self, alloc: Global, k: u32) -> Result<Vec<u8>, AllocError>
+        requires rows { AreRowsOver self.now.frame self.now.values.items self.now.faces }
+        requires k { k < length self.now.faces }
+        ensures { IfOk result (λ text. IsPolygonText self.now k text.items) }
+    {
+        let polygon = self.faces.polygon(alloc, k)?;
+        let geometry = Geometry::Polygon(paths_of(alloc, &self.frame, &polygon)?);
+        let mut text = Vec::new(alloc);
+        write_geometry(&geometry, &mut text)?;
+        Ok(text)
+    }
+
+    // The fields of the row of a component.
+    fn row(&self, alloc: Global, k: u32) -> Result<Row, AllocError>
+        requires rows { AreRowsOver self.now.frame self.now.values.items self.now.faces }
+        requires k { k < length self.now.faces }
+        ensures { IfOk result (λ row. HasRow self.now k row.wkt.items row.value.items) }
+    {
+        let wkt = self.polygon_text(alloc, k)?;
+        let value = number_text(alloc, self.values[k as usize])?;
+        Ok(Row { wkt, value })
+    }
+
+    // Adds the row of a component.
+    fn add_row(&self, alloc: Global, k: u32, rows: &mut RowsText) -> Result<(), AllocError>
+        requires rows { AreRowsOver self.now.frame self.now.values.items self.now.faces }
+        requires k { k < length self.now.faces }
+        ensures { OnOk result (rows.old ++ rows_left self.now k ≡ rows.new ++ rows_left self.now (k + 1)) }
+    {
+        let row = self.row(alloc, k)?;
+        rows.add(&[row.wkt.as_slice(), row.value.as_slice()])?;
+        Ok(())
+    }
+
+    // Adds the rows from one on until the text is long, and says where it stopped; at least one, where there is one.
+    fn add_rows(&self, alloc: Global, from: u32, rows: &mut RowsText) -> Result<u32, AllocError>
+        requires rows { AreRowsOver self.now.frame self.now.values.items self.now.faces }
+        requires from { from ≤ length self.now.faces }
+        ensures further { IfOk result (λ next. (from < length self.now.faces → from < next) × (from ≤ next) × (next ≤ length self.now.faces)) }
+        ensures rows { IfOk result (λ next. rows.old ++ rows_left self.now from ≡ rows.new ++ rows_left self.now next) }
+    {
+        let mut k = from;
+        'rows: while (k as usize) < self.values.len() {
+            self.add_row(alloc, k, rows)?;
+            k += 1;
+            if rows.is_long() {
+                return Ok(k);
+            }
+        }
+        Ok(k)
+    }
+}
+
+// The text of a layer, handed out in pieces of whole rows.
+#[derive(Drop)]
+struct LayerText<'a> {
+    alloc: Global,
+    field: &'a str,
+    layer: &'a Layer,
+    has_header: bool,
+    next: u32,
+    ghost within: { next ≤ length layer.now.faces },
+    ghost rows: { AreRowsOver layer.now.frame layer.now.values.items layer.now.faces },
+}
+
+impl<'a> Pieces for LayerText<'a> {
+    ghost use Rattle.std.specs.Prelude.{◌+◌, ◌-◌, length, if◌then◌else◌};
+    ghost use Rattle.tool_run.specs.Inner.Layer.{layer_left};
+
+    ghost left = { λ text. layer_left text.field.now text.layer.now text.has_header text.next };
+
+    ghost steps = { λ text. (if text.has_header then 1 else 0) + (length text.layer.now.faces - text.next) };
+
+    fn next(&mut self, piece: &mut Vec<u8>) -> Result<bool, AllocError> {
+        if !self.has_header && self.next as usize >= self.layer.values.len() {
+            piece.clear();
+            return Ok(false);
+        }
+        let mut rows = RowsText::new(self.alloc);
+        if self.has_header {
+            rows.add(&[b"WKT", self.field.as_bytes()])?;
+        }
+        let next = self.layer.add_rows(self.alloc, self.next, &mut rows)?;
+        *piece = rows.into_text()?;
+        self.has_header = false;
+        self.next = next;
+        Ok(true)
+    }
+}
+
+// Makes the destination and writes the text of a layer to it.
+fn write_layer<F: Folder>(
+    alloc: Global,
+    folder: &mut F,
+    name: &str,
+    field: &str,
+    layer: &Layer,
+) -> Result<(), Fault>
+    requires { AreRowsOver layer.now.frame layer.now.values.items layer.now.faces }
+    ensures ok { OnOk result (Becomes (F.state folder.old).files (F.state folder.new).files (with_file name.now (layer_left field.now layer.now true 0))) }
+    ensures part { OnErr result (IsPartWritten (F.state folder.old).files (F.state folder.new).files name.now (layer_left field.now layer.now true 0)) }
+    ensures kind { IfErr result IsWriteFault }
+    ensures leaves { OnlyWrites (IsErrOf result Fault.WriteFault) (F.state folder.old) (F.state folder.new) }
+{
+    let mut text = LayerText {
+        alloc,
+        field,
+        layer,
+        has_header: true,
+        next: 0,
+    };
+    write_text(alloc, folder, name, &mut text)
+}
+
+/// Writes the polygons of the source's components to a layer.
+///
+/// A fault leaves the files as they were, or, where the job would have been done, a first part of the
+/// destination's bytes.
+pub fn polygonize<F: Folder>(
+    alloc: Global,
+    job: &PolygonizeJob,
+    folder: &mut F,
+) -> Result<(), Fault>
+    ensures outcome { IsDecided (status_of result) → IfSome (F.state folder.old).files
+        (λ files. Does (Job.Polygonize job.now) files result (F.state folder.new).files) }
+    ensures part { OnErr result (IfSome (F.state folder.old).files
+        (λ files. LeavesPart (Job.Polygonize job.now) files (F.state folder.new).files)) }
+    ensures unbuilt { IsTrue job.now.eight → IsErrOf result Fault.NotBuilt }
+    ensures built { IsErrOf result Fault.NotBuilt → IsTrue job.now.eight }
+    ensures untouched { IsTrue job.now.eight → folder.new ≡ folder.old }
+
+    // Each fault of the folder has its cause, and no call that failed is passed over.
+    ensures causes { HasCauses (status_of result) (F.state folder.old) (F.state folder.new) }
+    ensures read_same { status_of result ≡ Status.ReadFault → (F.state folder.new).files ≡ (F.state folder.old).files }
+    ensures write_done { status_of result ≡ Status.WriteFault → IfSome (F.state folder.old).files (CanBeDone (Job.Polygonize job.now)) }
+{
+    if job.eight {
+        return Err(Fault::NotBuilt);
+    }
+    let asc = read_source(alloc, folder, job.source.as_str())?;
+    let layer = layer_of(alloc, asc)?;
+    write_layer(alloc, folder, job.dest.as_str(), job.field.as_str(), &layer)?;
+    Ok(())
+}
