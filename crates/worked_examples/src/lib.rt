@@ -1,10 +1,12 @@
-//! Worked examples: numbers, cells and frames, runs of cells and components, the sieve, layers, and runs of the whole
-//! program over words and files in memory, with what each must give. No clause rules out that a call runs out of
-//! memory, so each example also shows that it doesn't where memory is ample.
+//! Worked examples: numbers, cells and frames, runs of cells and components, tables of edges, polygons, the sieve,
+//! layers, and runs of the whole program over words and files in memory, with what each must give. No clause rules
+//! out that a call runs out of memory, so each example also shows that it doesn't where memory is ample.
 #![tactic(auto)]
 
 #[cfg(test)]
 mod cells;
+#[cfg(test)]
+mod edges;
 #[cfg(test)]
 mod frames;
 #[cfg(test)]
@@ -14,6 +16,8 @@ mod numbers;
 #[cfg(test)]
 mod outside;
 #[cfg(test)]
+mod polygons;
+#[cfg(test)]
 mod regions;
 #[cfg(test)]
 mod run_table;
@@ -21,3 +25,5 @@ mod run_table;
 mod runs;
 #[cfg(test)]
 mod sieve;
+#[cfg(test)]
+mod words;

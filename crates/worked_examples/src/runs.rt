@@ -202,29 +202,113 @@ fn the_first_offence_of_a_source_is_told(rt: HostRuntime) -> Result<(), Fail> {
     Ok(())
 }
 
+// Words that are refused, and the line of each.
+const REFUSED_WORDS: [(&[&str], &[u8]); 17] = [
+    (&[], b"gdal_tools: no tool at word 1\n"),
+    (&["gdal_warp"], b"gdal_tools: unknown tool at word 1\n"),
+    (&["gdal_sieve"], b"gdal_tools: missing name at word 2\n"),
+    (
+        &["gdal_sieve", "-st"],
+        b"gdal_tools: missing value at word 2\n",
+    ),
+    (
+        &["gdal_sieve", "-st", "a", "b"],
+        b"gdal_tools: bad value at word 3\n",
+    ),
+    (
+        &["gdal_sieve", "a"],
+        b"gdal_tools: missing name at word 3\n",
+    ),
+    (
+        &["gdal_sieve", "a", "b", "c"],
+        b"gdal_tools: extra word at word 4\n",
+    ),
+    (
+        &["gdal_sieve", "-mask", "m", "a", "b"],
+        b"gdal_tools: unknown option at word 2\n",
+    ),
+    (
+        &["gdal_sieve", "-st", "2147483648", "a", "b"],
+        b"gdal_tools: bad value at word 3\n",
+    ),
+    (
+        &["gdal_sieve", "-st", "-1", "a", "b"],
+        b"gdal_tools: bad value at word 3\n",
+    ),
+    (
+        &[
+            "gdal_rasterize",
+            "-te",
+            "0",
+            "0",
+            "x",
+            "1",
+            "-ts",
+            "1",
+            "1",
+            "-burn",
+            "1",
+            "a",
+            "b",
+        ],
+        b"gdal_tools: bad value at word 5\n",
+    ),
+    // the words that -te takes are missing, though the first of them is out of form
+    (
+        &["gdal_rasterize", "-te", "x", "0"],
+        b"gdal_tools: missing value at word 2\n",
+    ),
+    (
+        &["gdal_rasterize", "-ts", "1", "1", "a", "b"],
+        b"gdal_tools: bad combination at word 7\n",
+    ),
+    (
+        &["gdal_polygonize", "a", "b", "lay", "wkt"],
+        b"gdal_tools: bad value at word 5\n",
+    ),
+    (
+        &["gdal_contour", "-zz", "a", "b"],
+        b"gdal_tools: unknown option at word 2\n",
+    ),
+    (
+        &["gdal_contour", "-fl", "a", "b"],
+        b"gdal_tools: missing value at word 2\n",
+    ),
+    (
+        &["gdal_contour", "a", "b"],
+        b"gdal_tools: bad combination at word 4\n",
+    ),
+];
+
 #[test]
-fn words_and_names_are_refused(rt: HostRuntime) -> Result<(), Fail> {
+fn the_first_fault_of_the_words_is_told(rt: HostRuntime) -> Result<(), Fail> {
     let alloc = rt.alloc();
-    let examples: [(&[&str], Status, &[u8]); 7] = [
-        (&[], Status::Usage, b"gdal_tools: no tool at word 1\n"),
+    for (words, line) in REFUSED_WORDS {
+        let ran = run_over(
+            alloc,
+            words,
+            folder_with(alloc, GRID)?,
+            MemorySink::new(alloc),
+        )?;
+        assert_eq!(rt; ran.status, Status::Usage);
+        assert!(rt; ran.said(line));
+        assert!(rt; ran.has("src.asc", Some(GRID)));
+        assert!(rt; ran.has("dst.asc", None));
+    }
+    Ok(())
+}
+
+#[test]
+fn jobs_that_are_not_built_and_files_that_are_missing(rt: HostRuntime) -> Result<(), Fail> {
+    let alloc = rt.alloc();
+    let examples: [(&[&str], Status, &[u8]); 3] = [
         (
-            &["gdal_warp"],
-            Status::Usage,
-            b"gdal_tools: unknown tool at word 1\n",
-        ),
-        (&["gdal_sieve"], Status::NotBuilt, b"not built\n"),
-        (
-            &["gdal_contour", "-st", "1", "a", "b"],
+            &["gdal_contour", "-i", "5", "src.asc", "dst.asc"],
             Status::NotBuilt,
             b"not built\n",
         ),
         (
-            &["gdal_sieve", "-st", "1", "-8", "b"],
-            Status::NotBuilt,
-            b"not built\n",
-        ),
-        (
-            &["gdal_sieve", "-st", "1", "a", "b", "c"],
+            &["gdal_polygonize", "-8", "src.asc", "dst.asc"],
             Status::NotBuilt,
             b"not built\n",
         ),
@@ -245,6 +329,86 @@ fn words_and_names_are_refused(rt: HostRuntime) -> Result<(), Fail> {
         assert!(rt; ran.said(line));
         assert!(rt; ran.has("src.asc", Some(GRID)));
         assert!(rt; ran.has("dst.asc", None));
+    }
+    Ok(())
+}
+
+// A land cover grid as GDAL writes it, and its sieve: the 82 takes the 41, since 41 and 21 both have five cells and 41
+// has the lower number.
+const LAND_COVER: &[u8] =
+    b"ncols        6\nnrows        3\nxllcorner    500000.000000000000\nyllcorner    5400000.000000000000\ncellsize     30.000000000000\nNODATA_value  -9999\n 11 11 41 41 41 -9999\n 11 11 41 82 41 -9999\n 11 21 21 21 21 21\n";
+
+const SIEVED_LAND_COVER: &[u8] =
+    b"ncols 6\nnrows 3\nxllcorner 500000\nyllcorner 5400000\ncellsize 30\nNODATA_value -9999\n11 11 41 41 41 -9999\n11 11 41 41 41 -9999\n11 21 21 21 21 21\n";
+
+const CORNERS: &[u8] =
+    b"ncols 3\nnrows 3\nxllcorner 0\nyllcorner 0\ncellsize 1\n5 5 5\n5 7 5\n5 5 7\n";
+
+const FIVES: &[u8] =
+    b"ncols 3\nnrows 3\nxllcorner 0\nyllcorner 0\ncellsize 1\n5 5 5\n5 5 5\n5 5 5\n";
+
+// Options of gdal_sieve, a source, and what is written of it.
+const SIEVED: [(&[&str], &[u8], &[u8]); 10] = [
+    (
+        &["-st", "3"],
+        b"ncols 6\nnrows 1\nxllcorner 0\nyllcorner 0\ncellsize 1\n1 2 2 3 3 3\n",
+        b"ncols 6\nnrows 1\nxllcorner 0\nyllcorner 0\ncellsize 1\n3 3 3 3 3 3\n",
+    ),
+    (
+        &[],
+        b"ncols 2\nnrows 1\nxllcorner 0\nyllcorner 0\ncellsize 1\n1 2\n",
+        b"ncols 2\nnrows 1\nxllcorner 0\nyllcorner 0\ncellsize 1\n1 2\n",
+    ),
+    (
+        &["-st", "2"],
+        b"ncols 5\nnrows 1\nxllcorner 0\nyllcorner 0\ncellsize 1\n5 5 7 6 6\n",
+        b"ncols 5\nnrows 1\nxllcorner 0\nyllcorner 0\ncellsize 1\n5 5 5 6 6\n",
+    ),
+    (
+        &["-st", "2"],
+        b"ncols 3\nnrows 1\nxllcorner 0\nyllcorner 0\ncellsize 1\nNODATA_value -9999\n1 -9999 2\n",
+        b"ncols 3\nnrows 1\nxllcorner 0\nyllcorner 0\ncellsize 1\nNODATA_value -9999\n1 -9999 2\n",
+    ),
+    (&[], LAND_COVER, SIEVED_LAND_COVER),
+    (&["-st", "2"], CORNERS, FIVES),
+    (&["-st", "2", "-8"], CORNERS, CORNERS),
+    (&["-st", "3", "-8"], CORNERS, FIVES),
+    (&["-st", "0"], CORNERS, CORNERS),
+    (
+        &[
+            "-8",
+            "-4",
+            "-q",
+            "-of",
+            "aaigrid",
+            "-st",
+            "2147483647",
+            "-st",
+            "2",
+        ],
+        CORNERS,
+        FIVES,
+    ),
+];
+
+#[test]
+fn grids_are_sieved(rt: HostRuntime) -> Result<(), Fail> {
+    let alloc = rt.alloc();
+    for (options, source, dest) in SIEVED {
+        let mut words = Words::new(alloc);
+        words.push("gdal_sieve")?;
+        for option in options {
+            words.push(option)?;
+        }
+        words.push("src.asc")?;
+        words.push("dst.asc")?;
+        let mut folder = folder_with(alloc, source)?;
+        let mut out = MemorySink::new(alloc);
+        let mut err = MemorySink::new(alloc);
+        let status = run(alloc, &words, &mut folder, &mut out, &mut err);
+        assert_eq!(rt; status, Status::Done);
+        assert!(rt; folder.file("dst.asc") == Some(dest));
+        assert!(rt; err.bytes().is_empty());
     }
     Ok(())
 }
@@ -306,5 +470,90 @@ fn a_failing_sink_changes_no_status(rt: HostRuntime) -> Result<(), Fail> {
         assert_eq!(rt; ran.status, Status::Missing);
         assert!(rt; ran.said(said));
     }
+    Ok(())
+}
+
+// Names behind the source and the destination, a source, and the layer that is written of it.
+const POLYGONIZED: [(&[&str], &[u8], &[u8]); 9] = [
+    (
+        &[],
+        GRID,
+        b"WKT,DN\n\"POLYGON ((0 2,0 0,1 0,1 1,2 1,2 2,0 2))\",1\n\"POLYGON ((2 2,2 1,1 1,1 0,3 0,3 2,2 2))\",2\n",
+    ),
+    (
+        &[],
+        b"ncols 1\nnrows 1\nxllcorner 0\nyllcorner 0\ncellsize 1\n-5\n",
+        b"WKT,DN\n\"POLYGON ((0 1,0 0,1 0,1 1,0 1))\",-5\n",
+    ),
+    (
+        &["lay", "a,b"],
+        b"ncols 1\nnrows 1\nxllcorner 0\nyllcorner 0\ncellsize 1\n-5\n",
+        b"WKT,\"a,b\"\n\"POLYGON ((0 1,0 0,1 0,1 1,0 1))\",-5\n",
+    ),
+    (
+        &["-q", "-b", "1", "-f", "csv", "-lco", "geometry=as_wkt"],
+        b"ncols 3\nnrows 3\nxllcorner 0\nyllcorner 0\ncellsize 1\n1 1 1\n1 2 1\n1 1 1\n",
+        b"WKT,DN\n\"POLYGON ((0 3,0 0,3 0,3 3,0 3),(1 2,2 2,2 1,1 1,1 2))\",1\n\"POLYGON ((1 2,1 1,2 1,2 2,1 2))\",2\n",
+    ),
+    (
+        &[],
+        b"ncols 4\nnrows 4\nxllcorner 0\nyllcorner 0\ncellsize 1\n1 1 1 1\n1 2 1 1\n1 1 2 1\n1 1 1 1\n",
+        b"WKT,DN\n\"POLYGON ((0 4,0 0,4 0,4 4,0 4),(1 3,2 3,2 2,1 2,1 3),(2 2,3 2,3 1,2 1,2 2))\",1\n\"POLYGON ((1 3,1 2,2 2,2 3,1 3))\",2\n\"POLYGON ((2 2,2 1,3 1,3 2,2 2))\",2\n",
+    ),
+    (
+        &[],
+        b"ncols 3\nnrows 3\nxllcorner 0\nyllcorner 0\ncellsize 1\n1 1 1\n1 2 1\n1 1 2\n",
+        b"WKT,DN\n\"POLYGON ((0 3,0 0,2 0,2 1,3 1,3 3,0 3),(1 2,2 2,2 1,1 1,1 2))\",1\n\"POLYGON ((1 2,1 1,2 1,2 2,1 2))\",2\n\"POLYGON ((2 1,2 0,3 0,3 1,2 1))\",2\n",
+    ),
+    (
+        &[],
+        b"ncols 2\nnrows 2\nxllcorner 0\nyllcorner 0\ncellsize 1\n1 2\n2 1\n",
+        b"WKT,DN\n\"POLYGON ((0 2,0 1,1 1,1 2,0 2))\",1\n\"POLYGON ((1 2,1 1,2 1,2 2,1 2))\",2\n\"POLYGON ((0 1,0 0,1 0,1 1,0 1))\",2\n\"POLYGON ((1 1,1 0,2 0,2 1,1 1))\",1\n",
+    ),
+    (
+        &[],
+        b"ncols 2\nnrows 1\nxllcorner 0\nyllcorner 0\ncellsize 1\nNODATA_value -9999\n-9999 -9999\n",
+        b"WKT,DN\n",
+    ),
+    (
+        &[],
+        LAND_COVER,
+        b"WKT,DN\n\"POLYGON ((500000 5400090,500000 5400000,500030 5400000,500030 5400030,500060 5400030,500060 5400090,500000 5400090))\",11\n\"POLYGON ((500060 5400090,500060 5400030,500090 5400030,500090 5400060,500120 5400060,500120 5400030,500150 5400030,500150 5400090,500060 5400090))\",41\n\"POLYGON ((500090 5400060,500090 5400030,500120 5400030,500120 5400060,500090 5400060))\",82\n\"POLYGON ((500030 5400030,500030 5400000,500180 5400000,500180 5400030,500030 5400030))\",21\n",
+    ),
+];
+
+#[test]
+fn components_are_written_as_polygons(rt: HostRuntime) -> Result<(), Fail> {
+    let alloc = rt.alloc();
+    for (names, source, layer) in POLYGONIZED {
+        let mut words = Words::new(alloc);
+        words.push("gdal_polygonize")?;
+        words.push("src.asc")?;
+        words.push("p.csv")?;
+        for name in names {
+            words.push(name)?;
+        }
+        let mut folder = folder_with(alloc, source)?;
+        let mut out = MemorySink::new(alloc);
+        let mut err = MemorySink::new(alloc);
+        let status = run(alloc, &words, &mut folder, &mut out, &mut err);
+        assert_eq!(rt; status, Status::Done);
+        assert!(rt; folder.file("p.csv") == Some(layer));
+        assert!(rt; folder.file("src.asc") == Some(source));
+        assert!(rt; err.bytes().is_empty() && out.bytes().is_empty());
+    }
+    Ok(())
+}
+
+#[test]
+fn a_layer_that_cannot_be_written_is_told(rt: HostRuntime) -> Result<(), Fail> {
+    let alloc = rt.alloc();
+    let mut folder = folder_with(alloc, GRID)?;
+    folder.fail(Call::Append, 1)?;
+    let words = ["gdal_polygonize", "src.asc", "p.csv"];
+    let ran = run_over(alloc, &words, folder, MemorySink::new(alloc))?;
+    assert_eq!(rt; ran.status, Status::WriteFault);
+    assert!(rt; ran.said(b"p.csv: write failed\n"));
+    assert!(rt; ran.has("p.csv", Some(b"")));
     Ok(())
 }
