@@ -1,6 +1,6 @@
 //! Worked examples: numbers, cells and frames, runs of cells and components, tables of edges, polygons, the sieve,
-//! layers, and runs of the whole program over words and files in memory, with what each must give. No clause rules
-//! out that a call runs out of memory, so each example also shows that it doesn't where memory is ample.
+//! layers and words, with what each must give. No clause rules out that a call runs out of memory, so each example
+//! also shows that it doesn't where memory is ample.
 #![tactic(auto)]
 
 #[cfg(test)]
@@ -21,8 +21,6 @@ mod polygons;
 mod regions;
 #[cfg(test)]
 mod run_table;
-#[cfg(test)]
-mod runs;
 #[cfg(test)]
 mod sieve;
 #[cfg(test)]
