@@ -1,5 +1,6 @@
 // Words and the jobs that they ask for.
 use cell_base::{Cell, CellKind};
+use geo_transform::Extent;
 use std::alloc::{AllocError, Global};
 use std::test::Fail;
 use tool_words::{ContourJob, Job, RasterizeJob, SizeFrom, ValueFrom, Words, read_words};
@@ -94,21 +95,30 @@ fn burns_minus_three(job: &RasterizeJob) -> bool {
     }
 }
 
+fn is_within(extent: &Extent) -> bool {
+    extent.xmin.units() == -10_000_000_000
+        && extent.ymin.units() == -10_000_000_000
+        && extent.xmax.units() == 0
+        && extent.ymax.units() == 0
+}
+
+fn is_plain(job: &RasterizeJob) -> bool {
+    !job.invert && !job.touched && !job.add && job.init == 0
+}
+
 fn is_one_cell(job: Option<Job>) -> bool {
     match job {
         Some(Job::Rasterize(job)) => {
-            let within = match job.extent {
-                Some(extent) => {
-                    extent.xmin.units() == -10_000_000_000
-                        && extent.ymin.units() == -10_000_000_000
-                        && extent.xmax.units() == 0
-                        && extent.ymax.units() == 0
-                }
+            let within = match &job.extent {
+                Some(extent) => is_within(extent),
                 None => false,
             };
-            let plain = !job.invert && !job.touched && !job.add && job.init == 0;
             let one = job.size == (SizeFrom::Cells { ncols: 1, nrows: 1 });
-            within && plain && one && job.kind == CellKind::Int64 && burns_minus_three(&job)
+            within
+                && is_plain(&job)
+                && one
+                && job.kind == CellKind::Int64
+                && burns_minus_three(&job)
         }
         _ => false,
     }
