@@ -1,5 +1,5 @@
 -- Words and files have at most one outcome.
-use Rattle.std.proofs.Common.{◌≡◌, ◌∙◌, ℕ, Bool, true, false, not, List, Result, Ok, Err, sym, ap}
+use Rattle.std.proofs.Common.{◌≡◌, ◌∙◌, List, Result, Ok, Err, sym, ap}
 use Rattle.rv_outside.specs.Files.{Files}
 use Rattle.tool_words.specs.Words.{Text}
 use Rattle.tool_words.specs.Job.{job_of}
@@ -7,19 +7,14 @@ use Rattle.tool_words.specs.declared.fault.WordFault.{WordFault}
 use Rattle.tool_words.specs.declared.job.Job.{Job}
 use Rattle.tool_words.specs.declared.job.Job.TheVariants.{Sieve, Polygonize, Rasterize, Contour}
 use Rattle.tool_outcome.specs.Answer.{Answer}
-use Rattle.tool_outcome.specs.Outcome.{HasOneOutcome, IsAnswerFor, IsAnswerIf, IsOutcomeOf, Outcome, end_of_job}
+use Rattle.tool_outcome.specs.Outcome.{HasOneOutcome, IsAnswerFor, IsOutcomeOf, Outcome, end_of_job}
 use Rattle.tool_outcome.specs.Source.{source_of}
-use Rattle.tool_outcome.specs.Polygonize.{IsPolygonizeAnswer}
 use Rattle.tool_outcome.proofs.SieveLemmas.{one_answer}
 use Rattle.tool_outcome.proofs.PolygonizeLemmas as polygons
 
-one_if : (built : Bool) (IsAnswer : Answer → Type 0) (a b : Answer) → ((x y : Answer) → IsAnswer x → IsAnswer y → x ≡ y) → IsAnswerIf built IsAnswer a → IsAnswerIf built IsAnswer b → a ≡ b
-one_if true IsAnswer a b same one two = same a b one two
-one_if false IsAnswer a b same one two = one ∙ sym two
-
 one_for_job : (job : Job) (files : Files) (a b : Answer) → IsAnswerFor job files a → IsAnswerFor job files b → a ≡ b
 one_for_job (Sieve job) files a b one two = one_answer job (source_of (files job.source)) a b one two
-one_for_job (Polygonize job) files a b one two = one_if (not job.eight) (IsPolygonizeAnswer job files) a b (polygons.one_answer job (source_of (files job.source))) one two
+one_for_job (Polygonize job) files a b one two = polygons.one_answer job (source_of (files job.source)) a b one two
 one_for_job (Rasterize job) files a b one two = one ∙ sym two
 one_for_job (Contour job) files a b one two = one ∙ sym two
 

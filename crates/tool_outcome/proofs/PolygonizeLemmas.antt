@@ -1,7 +1,6 @@
 -- The text of gdal_polygonize is one.
-use Rattle.std.proofs.Common.{◌≡◌, ◌∙◌, ℕ, zero, suc, ℤ, Bool, List, [], ◌∷◌, Option, Some, None, Result, Ok, Err, length, refl, sym, ap, subst, arith}
+use Rattle.std.proofs.Common.{◌≡◌, ◌∙◌, ℕ, suc, ℤ, List, [], ◌∷◌, Some, Result, Ok, Err, length, refl, sym, ap, subst, arith}
 use Rattle.std.specs.Prelude.{slice_get}
-use Rattle.cell_base.specs.Raster.{Raster}
 use Rattle.cell_base.specs.Steps.{four}
 use Rattle.asc_grid.specs.declared.grid.Asc.{Asc}
 use Rattle.region_label.specs.Labelling.{RegionTable, IsLabelling}
@@ -31,14 +30,17 @@ one_list regions a b one two =
 -- the text is one
 pub one_layer : (job : PolygonizeJob) (asc : Asc ℤ) → HasOneLayer job asc
 one_layer job asc text other one two =
-    let valid = one_mask asc one.0 two.0 one.3 two.3 in
-    let labelled : IsLabelling four asc.cells one.0 two.1 = subst (λ v. IsLabelling four asc.cells v two.1) valid two.4 in
-    let regions : one.1 ≡ two.1 = one_labelling four asc.cells one.0 one.1 two.1 one.4 labelled in
-    let polygons : one.2 ≡ two.2 = one_list two.1 one.2 two.2 (subst (λ r. ArePolygonsOf r one.2) regions one.5) two.5 in
-    one.6
-    ∙ ap (λ r. layer_text job.field asc.frame (components_of asc.cells r one.2)) regions
-    ∙ ap (λ ps. layer_text job.field asc.frame (components_of asc.cells two.1 ps)) polygons
-    ∙ sym two.6
+    let valid = one_mask asc one.valid two.valid one.mask two.mask in
+    let by_sides : IsLabelling four asc.cells one.valid two.sides = subst (λ v. IsLabelling four asc.cells v two.sides) valid two.by_sides in
+    let labelled : IsLabelling job.eight asc.cells one.valid two.regions = subst (λ v. IsLabelling job.eight asc.cells v two.regions) valid two.labelled in
+    let sides : one.sides ≡ two.sides = one_labelling four asc.cells one.valid one.sides two.sides one.by_sides by_sides in
+    let regions : one.regions ≡ two.regions = one_labelling job.eight asc.cells one.valid one.regions two.regions one.labelled labelled in
+    let polygons : one.polygons ≡ two.polygons = one_list two.sides one.polygons two.polygons (subst (λ r. ArePolygonsOf r one.polygons) sides one.drawn) two.drawn in
+    one.is
+    ∙ ap (λ r. layer_text job.field asc.frame (components_of asc.cells r one.sides one.polygons)) regions
+    ∙ ap (λ r. layer_text job.field asc.frame (components_of asc.cells two.regions r one.polygons)) sides
+    ∙ ap (λ ps. layer_text job.field asc.frame (components_of asc.cells two.regions two.sides ps)) polygons
+    ∙ sym two.is
 
 -- the answer is one
 pub one_answer : (job : PolygonizeJob) (source : Result (Asc ℤ) Fault) (a b : Answer) → AnswersBy (IsPolygonizeText job) source a → AnswersBy (IsPolygonizeText job) source b → a ≡ b

@@ -1,9 +1,8 @@
 -- The answer of gdal_sieve is one.
-use Rattle.std.proofs.Common.{◌≡◌, ◌∙◌, ◌≤◌, ℕ, ℤ, ◌↔◌, Bool, true, false, List, Option, Some, None, Result, Ok, Err, refl, sym, ap, subst, arith}
+use Rattle.std.proofs.Common.{◌≡◌, ◌∙◌, ◌≤◌, ℤ, Bool, true, false, Result, Ok, Err, refl, sym, ap, subst, arith}
 use Rattle.std.specs.Prelude.{nat_le}
 use Rattle.std.proofs.lemmas.Bool.Decides.{nat_tests}
-use Rattle.cell_base.specs.Raster.{AreAligned, Place, Raster, value_at}
-use Rattle.cell_base.specs.Valid.{IsMarked, IsValid}
+use Rattle.cell_base.specs.Raster.{Raster}
 use Rattle.asc_grid.specs.declared.grid.Asc.{Asc}
 use Rattle.sieve_core.specs.Sieve.{IsSieved}
 use Rattle.sieve_core.proofs.KeepsLemmas.{keeps_all}

@@ -1,5 +1,5 @@
 -- What a tool answers for a job. Source: this project's own.
-use Rattle.std.specs.Prelude.{◌≡◌, ℕ, ℤ, List, Ok, Err}
+use Rattle.std.specs.Prelude.{◌≡◌, ℕ, List, Ok, Err}
 use Rattle.std.specs.declared.result.Result.{Result}
 use Rattle.asc_grid.specs.declared.grid.Asc.{Asc}
 use Rattle.tool_outcome.specs.declared.fault.Fault.{Fault}

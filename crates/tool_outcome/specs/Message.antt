@@ -1,5 +1,5 @@
 -- The line that a run writes to standard error. Source: this project's own.
-use Rattle.std.specs.Prelude.{◌≡◌, ℕ, List, [], ◌∷◌, ◌++◌, Ok, Err, codes, decimal}
+use Rattle.std.specs.Prelude.{◌≡◌, ℕ, List, [], ◌++◌, Ok, Err, codes, decimal}
 use Rattle.std.specs.declared.result.Result.{Result}
 use Rattle.asc_grid.specs.declared.fault.GridKind.{GridKind}
 use Rattle.asc_grid.specs.declared.fault.GridKind.TheVariants.{UnknownKeyword, RepeatedKeyword, MissingKeyword, BadNumber, OutOfRange, TooLarge, BadCell, TooFewCells, TooManyCells}

@@ -1,5 +1,5 @@
 -- What a run is to do. Source: this project's own.
-use Rattle.std.specs.Prelude.{◌≡◌, ◌⊎◌, ℕ, Bool, true, false, not, List, [], Option, Some, Ok, Err, take}
+use Rattle.std.specs.Prelude.{◌≡◌, ◌⊎◌, ℕ, Bool, true, false, List, [], Option, Some, Ok, Err, take}
 use Rattle.std.specs.declared.result.Result.{Result}
 use Rattle.rv_outside.specs.Files.{Files, with_file}
 use Rattle.tool_words.specs.Words.{Text}
@@ -24,22 +24,17 @@ pub record Outcome : Type 0 where
   pub files : Files
   pub out : List ℕ
 
--- the jobs that are built: polygons between cells that meet at a corner are not
+-- the jobs that are built
 abbrev pub is_built : Job → Bool
 is_built (Sieve job) = true
-is_built (Polygonize job) = not job.eight
+is_built (Polygonize job) = true
 is_built (Rasterize job) = false
 is_built (Contour job) = false
-
--- the answer of a form that is built, and else that it is not
-abbrev pub IsAnswerIf : Bool → (Answer → Type 0) → Answer → Type 0
-IsAnswerIf true IsAnswer answer = IsAnswer answer
-IsAnswerIf false IsAnswer answer = answer ≡ Err NotBuilt
 
 -- the answer for a job
 abbrev pub IsAnswerFor : Job → Files → Answer → Type 0
 IsAnswerFor (Sieve job) files answer = IsSieveAnswer job files answer
-IsAnswerFor (Polygonize job) files answer = IsAnswerIf (not job.eight) (IsPolygonizeAnswer job files) answer
+IsAnswerFor (Polygonize job) files answer = IsPolygonizeAnswer job files answer
 IsAnswerFor other files answer = answer ≡ Err NotBuilt
 
 -- the end of a run whose words are refused: all files stay

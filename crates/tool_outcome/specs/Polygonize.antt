@@ -13,8 +13,10 @@ use Rattle.edge_trace.specs.Edge.{Corner}
 use Rattle.ring_faces.specs.Ring.{Ring}
 use Rattle.ring_faces.specs.LatticePolygon.{Polygon, rings_of}
 use Rattle.ring_faces.specs.Faces.{ArePolygonsOf}
+use Rattle.region_parts.specs.Parts.{items_by}
 use Rattle.wkt_text.specs.Spelling.{wkt}
 use Rattle.wkt_text.specs.declared.geometry.Pt.{Pt}
+use Rattle.wkt_text.specs.declared.geometry.Geometry.{Geometry}
 use Rattle.wkt_text.specs.declared.geometry.Geometry.TheVariants as geometry
 use Rattle.ogr_csv.specs.Rows.{text_of_rows}
 use Rattle.tool_words.specs.Words.{Text}
@@ -39,29 +41,41 @@ paths_of frame polygon = map (path_of frame) (rings_of polygon)
 abbrev pub value_of : Raster ℤ → Place → ℤ
 value_of cells first = unwrap_or (value_at cells first) (pos 0)
 
--- the fields of a component's row: its polygon and its value
-abbrev pub row_of : Frame → ℤ × Polygon → List Text
-row_of frame component =
-    wkt (geometry.Polygon (paths_of frame component.1)) ∷ shortest component.0 0 ∷ []
+-- the shape of a component: the polygon of its one part, or those of all its parts
+abbrev pub shape_of : Frame → List Polygon → Geometry
+shape_of frame (part ∷ []) = geometry.Polygon (paths_of frame part)
+shape_of frame parts = geometry.MultiPolygon (map (paths_of frame) parts)
+
+-- the fields of a component's row: its shape and its value
+abbrev pub row_of : Frame → ℤ × List Polygon → List Text
+row_of frame component = wkt (shape_of frame component.1) ∷ shortest component.0 0 ∷ []
 
 -- the fields of the first row
 abbrev pub header_row : Text → List Text
 header_row field = codes "WKT" ∷ field ∷ []
 
--- the values and the polygons of the components, by number
-abbrev pub components_of : Raster ℤ → RegionTable → List Polygon → List (ℤ × Polygon)
-components_of cells regions polygons = zip (map (value_of cells) regions.firsts) polygons
+-- the values and the parts of the components, by number: the parts are the polygons of the components under side steps
+-- that lie in it, in order of their first cells
+abbrev pub components_of : Raster ℤ → RegionTable → RegionTable → List Polygon → List (ℤ × List Polygon)
+components_of cells regions sides polygons =
+    zip (map (value_of cells) regions.firsts) (items_by regions (zip sides.firsts polygons))
 
 -- the text of the layer: a header, and a row for each component
-abbrev pub layer_text : Text → Frame → List (ℤ × Polygon) → List ℕ
+abbrev pub layer_text : Text → Frame → List (ℤ × List Polygon) → List ℕ
 layer_text field frame components = text_of_rows (header_row field ∷ map (row_of frame) components)
 
--- the polygonize text of a grid: one polygon for each component of equal valid cells under side steps, in order of number,
--- the only canonical one
-abbrev pub IsPolygonizeText : PolygonizeJob → Asc ℤ → List ℕ → Type 0
-IsPolygonizeText job asc text = (valid : Raster Bool) × (regions : RegionTable) × (polygons : List Polygon)
-    × IsMaskOf asc valid × IsLabelling four asc.cells valid regions × ArePolygonsOf regions polygons
-    × (text ≡ layer_text job.field asc.frame (components_of asc.cells regions polygons))
+-- the polygonize text of a grid: a row for each component of equal valid cells, under side steps or under `-8` under
+-- all steps, in order of number, with the only canonical polygon of each of its parts under side steps
+pub record IsPolygonizeText (job : PolygonizeJob) (asc : Asc ℤ) (text : List ℕ) : Type 0 where
+  pub valid : Raster Bool
+  pub sides : RegionTable
+  pub regions : RegionTable
+  pub polygons : List Polygon
+  pub mask : IsMaskOf asc valid
+  pub by_sides : IsLabelling four asc.cells valid sides
+  pub labelled : IsLabelling job.eight asc.cells valid regions
+  pub drawn : ArePolygonsOf sides polygons
+  pub is : text ≡ layer_text job.field asc.frame (components_of asc.cells regions sides polygons)
 
 -- the answer of gdal_polygonize
 abbrev pub IsPolygonizeAnswer : PolygonizeJob → Files → Answer → Type 0

@@ -20,8 +20,8 @@ pub fn writes_the_sieved_grid()
     ensures { (job : SieveJob) (asc : Asc ℤ) → AgreesWithSieve job asc }
 {}
 
-/// A grid has at most one polygonize text: each component has one canonical polygon, and all else follows from the grid.
-/// No tool writes it yet.
+/// A grid has at most one polygonize text, without and with `-8`: each component under side steps has one canonical
+/// polygon, and all else follows from the grid.
 pub fn polygonize_text_is_one()
     ensures { (job : PolygonizeJob) (asc : Asc ℤ) → HasOneLayer job asc }
 {}

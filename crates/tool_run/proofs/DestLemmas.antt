@@ -1,5 +1,5 @@
 -- What a destination holds while it is written.
-use Rattle.std.proofs.Common.{◌≡◌, ◌⊎◌, inl, inr, refl, Some, ℕ, List, ◌++◌, length, take, drop, Option, arith, append_assoc}
+use Rattle.std.proofs.Common.{◌≡◌, inr, ℕ, List, ◌++◌, length, take, drop, Option, arith, append_assoc}
 use Rattle.std.proofs.lemmas.List.{take-append-drop}
 use Rattle.std.proofs.lemmas.Grind.{common_steps}
 use Rattle.rv_outside.specs.Files.{Files, Becomes, with_appended, with_file}

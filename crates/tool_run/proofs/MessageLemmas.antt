@@ -1,6 +1,6 @@
 -- Lines that a sink takes in two parts.
 use Rattle.std.specs.Prelude.{codes, decimal}
-use Rattle.std.proofs.Common.{append_assoc, subst, ap, sym, ◌∙◌, ◌≡◌, ◌≤◌, ◌++◌, [], ◌+◌, ℕ, List, Option, Ok, Err, IsErrOf, length, take, drop, refl, arith}
+use Rattle.std.proofs.Common.{append_assoc, subst, ap, sym, ◌∙◌, ◌≡◌, ◌≤◌, ◌++◌, [], ◌+◌, ℕ, List, Option, Ok, Err, length, take, drop, refl, arith}
 use Rattle.std.proofs.lemmas.Grind.{common_steps}
 use Rattle.std.proofs.lemmas.List.{take-append-le}
 use Rattle.std.proofs.Math.Seq.{take-add}

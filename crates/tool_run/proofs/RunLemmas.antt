@@ -1,12 +1,11 @@
 -- What a run tells of the answer of its tool.
-use Rattle.std.proofs.Common.{◌≡◌, ◌≢◌, ◌∙◌, ℕ, List, Option, Some, None, Result, Ok, Err, IfSome, OnErr, refl, sym, subst}
+use Rattle.std.proofs.Common.{◌≡◌, ◌≢◌, ℕ, List, Option, Some, None, Result, Ok, Err, IfSome, OnErr, refl, sym, subst}
 use Rattle.rv_outside.specs.Files.{Files, with_file}
 use Rattle.asc_grid.specs.declared.fault.GridKind.{GridKind}
 use Rattle.asc_grid.specs.declared.fault.GridKind.TheVariants.{UnknownKeyword, RepeatedKeyword, MissingKeyword, BadNumber, OutOfRange, TooLarge, BadCell, TooFewCells, TooManyCells}
 use Rattle.asc_grid.specs.declared.fault.GridFault.TheVariants as grid
 use Rattle.tool_words.specs.Words.{Text}
 use Rattle.tool_words.specs.Job.{job_of}
-use Rattle.tool_words.specs.declared.fault.WordFault.{WordFault}
 use Rattle.tool_words.specs.declared.job.Job.{Job}
 use Rattle.tool_outcome.specs.Message.{IsLine, dest_of_job, line_of_answer, line_of_job, source_of_job}
 use Rattle.tool_outcome.specs.Outcome.{Does, LeavesPart, Meets, IsOutcomeOf, WordsLeavePart, end_of_job}
@@ -14,7 +13,6 @@ use Rattle.tool_outcome.specs.Status.{status_of}
 use Rattle.tool_outcome.specs.declared.fault.Fault.{Fault}
 use Rattle.tool_outcome.specs.declared.fault.Fault.TheVariants as fault
 use Rattle.tool_outcome.specs.declared.fault.Role.{Role}
-use Rattle.tool_outcome.specs.declared.status.Status.{Status}
 use Rattle.tool_outcome.specs.declared.status.Status.TheVariants.{Done}
 
 -- the answer of a job, as its line

@@ -1,5 +1,5 @@
 -- What gdal_sieve leaves.
-use Rattle.std.proofs.Common.{◌≡◌, ◌∙◌, ◌⊎◌, inl, inr, ℕ, ℤ, List, Option, Some, None, Ok, IfSome, ap, refl, sym, subst, take}
+use Rattle.std.proofs.Common.{◌≡◌, ◌∙◌, inl, inr, ℤ, Option, Some, None, Ok, IfSome, ap, subst}
 use Rattle.std.specs.Prelude.{nat_le}
 use Rattle.rv_outside.specs.Files.{Files, Becomes, with_file}
 use Rattle.asc_grid.specs.declared.grid.Asc.{Asc}

@@ -1,5 +1,5 @@
 -- What is read of a source.
-use Rattle.std.proofs.Common.{◌≡◌, ◌≢◌, ℕ, ℤ, List, Option, Some, None, Result, Ok, Err, IfSome, refl}
+use Rattle.std.proofs.Common.{◌≡◌, ◌≢◌, ℕ, ℤ, List, Option, Some, None, Ok, Err, IfSome, refl}
 use Rattle.rv_outside.specs.Files.{Files}
 use Rattle.asc_grid.specs.Grid.{grid_of}
 use Rattle.asc_grid.specs.declared.grid.Asc.{Asc}

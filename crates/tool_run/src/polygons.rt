@@ -12,8 +12,9 @@ ghost use Rattle.tool_outcome.specs.Outcome.{CanBeDone, Does, LeavesPart};
 ghost use Rattle.tool_outcome.specs.Polygonize.{header_row, path_of, paths_of, point_of, row_of, value_of};
 ghost use Rattle.tool_outcome.specs.Status.{IsDecided, status_of};
 ghost use Rattle.tool_run.specs.Causes.{HasCauses};
-ghost use Rattle.tool_run.specs.Inner.Rows.{AreRowsOver, AreTraced};
-ghost use Rattle.tool_run.specs.Inner.Layer.{HasRow, IsPolygonText, layer_left, rows_left};
+ghost use Rattle.tool_run.specs.Inner.Rows.{AreComponents, AreRowsOver, AreTraced, polygon_at};
+ghost use Rattle.tool_run.specs.Inner.Layer.{HasRow, HasShape, HasShapeText, layer_left, rows_left};
+ghost use Rattle.wkt_text.specs.Geometry.{IsWritable};
 ghost use Rattle.rv_outside.specs.Files.{Becomes, with_file};
 ghost use Rattle.rv_outside.specs.Folder.{OnlyWrites};
 ghost use Rattle.tool_run.specs.Inner.Steps.{IsOverFrame, IsPartWritten, IsWriteFault};
@@ -26,24 +27,38 @@ use edge_trace::{Corner, EdgeTable};
 use geo_transform::Frame;
 use ogr_csv::RowsText;
 use region_label::{Regions, label};
+use region_parts::Parts;
 use ring_faces::{Faces, LatticePolygon, Ring};
 use rv_outside::Folder;
 use std::alloc::{AllocError, Global};
 use tool_outcome::{Fault, Status};
 use tool_words::{Job, PolygonizeJob};
-use wkt_text::{Geometry, Path, Pt, Rings, write_geometry};
+use wkt_text::{Geometry, Path, Polygons, Pt, Rings, write_geometry};
 
-// The components of a grid: the value and the polygon of each, by number.
+// The texts of most polygons and of all values are no longer, so that few texts are moved while they grow.
+const TEXT_ROOM: usize = 256;
+
+const NUMBER_ROOM: usize = 20;
+
+// The components that have a row each: the value of each, and, where cells meet at corners too, its parts under side steps.
+#[derive(Drop)]
+struct Components {
+    values: Vec<i64>,
+    parts: Option<Parts>,
+}
+
+// The components of a grid with their values, and the polygons of all components under side steps.
 #[derive(Drop)]
 struct Layer {
     frame: Frame,
     values: Vec<i64>,
+    parts: Option<Parts>,
     faces: Faces,
 }
 
 // The value of each component, by its first cell.
 fn values_of(alloc: Global, cells: &Grid<i64>, regions: &Regions) -> Result<Vec<i64>, AllocError>
-    requires { (valid : Raster Bool) × IsLabelling four cells.now valid regions.now }
+    requires { (connectivity : Bool) × (valid : Raster Bool) × IsLabelling connectivity cells.now valid regions.now }
     ensures values { IfOk result (λ values. values.items ≡ map (value_of cells.now) regions.now.firsts) }
     ensures few { length regions.now.firsts < 2 ^ 32 }
 {
@@ -53,6 +68,33 @@ fn values_of(alloc: Global, cells: &Grid<i64>, regions: &Regions) -> Result<Vec<
         values.push(cells.get(row, col))?;
     }
     Ok(values)
+}
+
+// The components of a grid, by those under side steps.
+fn components_of(
+    alloc: Global,
+    cells: &Grid<i64>,
+    valid: &Mask,
+    sides: &Regions,
+    eight: bool,
+) -> Result<Components, AllocError>
+    requires { IsLabelling four cells.now valid.now sides.now }
+    ensures { IfOk result (λ components. AreComponents eight cells.now valid.now sides.now components.values.items components.parts) }
+{
+    if !eight {
+        let values = values_of(alloc, cells, sides)?;
+        return Ok(Components {
+            values,
+            parts: None,
+        });
+    }
+    let regions = label::<i64, true>(alloc, cells, valid)?;
+    let values = values_of(alloc, cells, &regions)?;
+    let parts = Parts::of(alloc, &regions, sides)?;
+    Ok(Components {
+        values,
+        parts: Some(parts),
+    })
 }
 
 // The polygons of components.
@@ -66,22 +108,23 @@ fn faces_of(alloc: Global, regions: &Regions) -> Result<Faces, AllocError>
 }
 
 // The layer of a grid, whose cells are let go before its edges are traced.
-fn layer_of(alloc: Global, asc: Asc<i64>) -> Result<Layer, AllocError>
+fn layer_of(alloc: Global, asc: Asc<i64>, eight: bool) -> Result<Layer, AllocError>
     requires { IsOverFrame asc }
     ensures frame { IfOk result (λ layer. layer.frame ≡ asc.frame) }
-    ensures rows { IfOk result (λ layer. AreRowsOver layer.frame layer.values.items layer.faces) }
-    ensures traced { IfOk result (λ layer. AreTraced asc layer.values.items layer.faces) }
+    ensures rows { IfOk result (λ layer. AreRowsOver layer.frame layer.values.items layer.parts layer.faces) }
+    ensures traced { IfOk result (λ layer. AreTraced eight asc layer.values.items layer.parts layer.faces) }
 {
     let frame = asc.frame;
     let valid = Mask::valid_of(alloc, &asc.cells, asc.nodata)?;
-    let regions = label::<i64, false>(alloc, &asc.cells, &valid)?;
-    let values = values_of(alloc, &asc.cells, &regions)?;
+    let sides = label::<i64, false>(alloc, &asc.cells, &valid)?;
+    let components = components_of(alloc, &asc.cells, &valid, &sides, eight)?;
     drop(valid);
     drop(asc);
-    let faces = faces_of(alloc, &regions)?;
+    let faces = faces_of(alloc, &sides)?;
     Ok(Layer {
         frame,
-        values,
+        values: components.values,
+        parts: components.parts,
         faces,
     })
 }
@@ -131,7 +174,7 @@ fn paths_of(alloc: Global, frame: &Frame, polygon: &LatticePolygon) -> Result<Ri
 fn number_text(alloc: Global, value: i64) -> Result<Vec<u8>, AllocError>
     ensures { IfOk result (λ text. text.items ≡ shortest value 0) }
 {
-    let mut text = Vec::new(alloc);
+    let mut text = Vec::with_capacity(alloc, NUMBER_ROOM)?;
     <i64 as Cell>::write(value, &mut text)?;
     Ok(text)
 }
@@ -144,34 +187,80 @@ struct Row {
 }
 
 impl Layer {
-    // The text of the polygon of a component.
-    fn polygon_text(&self, alloc: Global, k: u32) -> Result<Vec<u8>, AllocError>
-        requires rows { AreRowsOver self.now.frame self.now.values.items self.now.faces }
-        requires k { k < length self.now.faces }
-        ensures { IfOk result (λ text. IsPolygonText self.now k text.items) }
+    // The rings of the polygon of this number.
+    fn rings(&self, alloc: Global, j: u32) -> Result<Rings, AllocError>
+        requires frame { IsFrame self.now.frame }
+        requires fit { All (FitsGrid self.now.frame.nrows self.now.frame.ncols) self.now.faces }
+        requires j { j < length self.now.faces }
+        ensures { IfOk result (λ rings. rings ≡ paths_of self.now.frame (polygon_at self.now.faces j)) }
     {
-        let polygon = self.faces.polygon(alloc, k)?;
-        let geometry = Geometry::Polygon(paths_of(alloc, &self.frame, &polygon)?);
-        let mut text = Vec::new(alloc);
-        write_geometry(&geometry, &mut text)?;
+        let polygon = self.faces.polygon(alloc, j)?;
+        let rings = paths_of(alloc, &self.frame, &polygon)?;
+        Ok(rings)
+    }
+
+    // The polygons of a component's parts.
+    fn polygons(&self, alloc: Global, parts: &[u32]) -> Result<Polygons, AllocError>
+        requires frame { IsFrame self.now.frame }
+        requires fit { All (FitsGrid self.now.frame.nrows self.now.frame.ncols) self.now.faces }
+        requires parts { All (λ j. j < length self.now.faces) parts.now }
+        ensures { IfOk result (λ polygons. polygons ≡ map (λ j. paths_of self.now.frame (polygon_at self.now.faces j)) parts.now) }
+    {
+        let mut polygons = Polygons::new(alloc);
+        'parts: for part in parts {
+            polygons.push(self.rings(alloc, *part)?)?;
+        }
+        Ok(polygons)
+    }
+
+    // The shape of a component.
+    fn shape(&self, alloc: Global, k: u32) -> Result<Geometry, AllocError>
+        requires rows { AreRowsOver self.now.frame self.now.values.items self.now.parts self.now.faces }
+        requires k { k < length self.now.values.items }
+        ensures shape { IfOk result (HasShape self.now k) }
+        ensures writable { IfOk result IsWritable }
+    {
+        let Some(parts) = &self.parts else {
+            let rings = self.rings(alloc, k)?;
+            return Ok(Geometry::Polygon(rings));
+        };
+        let mut numbers = Vec::new(alloc);
+        parts.list(k, &mut numbers)?;
+        if numbers.len() == 1 {
+            let rings = self.rings(alloc, numbers[0])?;
+            return Ok(Geometry::Polygon(rings));
+        }
+        let polygons = self.polygons(alloc, &numbers)?;
+        Ok(Geometry::MultiPolygon(polygons))
+    }
+
+    // The text of the shape of a component.
+    fn shape_text(&self, alloc: Global, k: u32) -> Result<Vec<u8>, AllocError>
+        requires rows { AreRowsOver self.now.frame self.now.values.items self.now.parts self.now.faces }
+        requires k { k < length self.now.values.items }
+        ensures { IfOk result (λ text. HasShapeText self.now k text.items) }
+    {
+        let shape = self.shape(alloc, k)?;
+        let mut text = Vec::with_capacity(alloc, TEXT_ROOM)?;
+        write_geometry(&shape, &mut text)?;
         Ok(text)
     }
 
     // The fields of the row of a component.
     fn row(&self, alloc: Global, k: u32) -> Result<Row, AllocError>
-        requires rows { AreRowsOver self.now.frame self.now.values.items self.now.faces }
-        requires k { k < length self.now.faces }
+        requires rows { AreRowsOver self.now.frame self.now.values.items self.now.parts self.now.faces }
+        requires k { k < length self.now.values.items }
         ensures { IfOk result (λ row. HasRow self.now k row.wkt.items row.value.items) }
     {
-        let wkt = self.polygon_text(alloc, k)?;
+        let wkt = self.shape_text(alloc, k)?;
         let value = number_text(alloc, self.values[k as usize])?;
         Ok(Row { wkt, value })
     }
 
     // Adds the row of a component.
     fn add_row(&self, alloc: Global, k: u32, rows: &mut RowsText) -> Result<(), AllocError>
-        requires rows { AreRowsOver self.now.frame self.now.values.items self.now.faces }
-        requires k { k < length self.now.faces }
+        requires rows { AreRowsOver self.now.frame self.now.values.items self.now.parts self.now.faces }
+        requires k { k < length self.now.values.items }
         ensures { OnOk result (rows.old ++ rows_left self.now k ≡ rows.new ++ rows_left self.now (k + 1)) }
     {
         let row = self.row(alloc, k)?;
@@ -181,9 +270,9 @@ impl Layer {
 
     // Adds the rows from one on until the text is long, and says where it stopped; at least one, where there is one.
     fn add_rows(&self, alloc: Global, from: u32, rows: &mut RowsText) -> Result<u32, AllocError>
-        requires rows { AreRowsOver self.now.frame self.now.values.items self.now.faces }
-        requires from { from ≤ length self.now.faces }
-        ensures further { IfOk result (λ next. (from < length self.now.faces → from < next) × (from ≤ next) × (next ≤ length self.now.faces)) }
+        requires rows { AreRowsOver self.now.frame self.now.values.items self.now.parts self.now.faces }
+        requires from { from ≤ length self.now.values.items }
+        ensures further { IfOk result (λ next. (from < length self.now.values.items → from < next) × (from ≤ next) × (next ≤ length self.now.values.items)) }
         ensures rows { IfOk result (λ next. rows.old ++ rows_left self.now from ≡ rows.new ++ rows_left self.now next) }
     {
         let mut k = from;
@@ -206,8 +295,8 @@ struct LayerText<'a> {
     layer: &'a Layer,
     has_header: bool,
     next: u32,
-    ghost within: { next ≤ length layer.now.faces },
-    ghost rows: { AreRowsOver layer.now.frame layer.now.values.items layer.now.faces },
+    ghost within: { next ≤ length layer.now.values.items },
+    ghost rows: { AreRowsOver layer.now.frame layer.now.values.items layer.now.parts layer.now.faces },
 }
 
 impl<'a> Pieces for LayerText<'a> {
@@ -216,7 +305,7 @@ impl<'a> Pieces for LayerText<'a> {
 
     ghost left = { λ text. layer_left text.field.now text.layer.now text.has_header text.next };
 
-    ghost steps = { λ text. (if text.has_header then 1 else 0) + (length text.layer.now.faces - text.next) };
+    ghost steps = { λ text. (if text.has_header then 1 else 0) + (length text.layer.now.values.items - text.next) };
 
     fn next(&mut self, piece: &mut Vec<u8>) -> Result<bool, AllocError> {
         if !self.has_header && self.next as usize >= self.layer.values.len() {
@@ -243,7 +332,7 @@ fn write_layer<F: Folder>(
     field: &str,
     layer: &Layer,
 ) -> Result<(), Fault>
-    requires { AreRowsOver layer.now.frame layer.now.values.items layer.now.faces }
+    requires { AreRowsOver layer.now.frame layer.now.values.items layer.now.parts layer.now.faces }
     ensures ok { OnOk result (Becomes (F.state folder.old).files (F.state folder.new).files (with_file name.now (layer_left field.now layer.now true 0))) }
     ensures part { OnErr result (IsPartWritten (F.state folder.old).files (F.state folder.new).files name.now (layer_left field.now layer.now true 0)) }
     ensures kind { IfErr result IsWriteFault }
@@ -259,7 +348,8 @@ fn write_layer<F: Folder>(
     write_text(alloc, folder, name, &mut text)
 }
 
-/// Writes the polygons of the source's components to a layer.
+/// Writes the polygons of the source's components to a layer, with `-8` those of the parts of components whose cells meet at
+/// corners too.
 ///
 /// A fault leaves the files as they were, or, where the job would have been done, a first part of the
 /// destination's bytes.
@@ -272,20 +362,15 @@ pub fn polygonize<F: Folder>(
         (λ files. Does (Job.Polygonize job.now) files result (F.state folder.new).files) }
     ensures part { OnErr result (IfSome (F.state folder.old).files
         (λ files. LeavesPart (Job.Polygonize job.now) files (F.state folder.new).files)) }
-    ensures unbuilt { IsTrue job.now.eight → IsErrOf result Fault.NotBuilt }
-    ensures built { IsErrOf result Fault.NotBuilt → IsTrue job.now.eight }
-    ensures untouched { IsTrue job.now.eight → folder.new ≡ folder.old }
+    ensures built { ¬ IsErrOf result Fault.NotBuilt }
 
     // Each fault of the folder has its cause, and no call that failed is passed over.
     ensures causes { HasCauses (status_of result) (F.state folder.old) (F.state folder.new) }
     ensures read_same { status_of result ≡ Status.ReadFault → (F.state folder.new).files ≡ (F.state folder.old).files }
     ensures write_done { status_of result ≡ Status.WriteFault → IfSome (F.state folder.old).files (CanBeDone (Job.Polygonize job.now)) }
 {
-    if job.eight {
-        return Err(Fault::NotBuilt);
-    }
     let asc = read_source(alloc, folder, job.source.as_str())?;
-    let layer = layer_of(alloc, asc)?;
+    let layer = layer_of(alloc, asc, job.eight)?;
     write_layer(alloc, folder, job.dest.as_str(), job.field.as_str(), &layer)?;
     Ok(())
 }

@@ -104,7 +104,16 @@ fn jobs_that_are_not_built_and_files_that_are_missing(rt: HostRuntime) -> Result
             b"not built\n",
         ),
         (
-            &["gdal_polygonize", "-8", "src.asc", "dst.asc"],
+            &[
+                "gdal_rasterize",
+                "-burn",
+                "1",
+                "-ts",
+                "1",
+                "1",
+                "src.asc",
+                "dst.asc",
+            ],
             Status::NotBuilt,
             b"not built\n",
         ),

@@ -1,4 +1,4 @@
-use Rattle.std.proofs.Common.{◌≡◌, ◌++◌, ℕ, List, rules, arith, sym, ap, ◌∙◌, append_assoc}
+use Rattle.std.proofs.Common.{◌++◌, rules, arith, sym, ap, ◌∙◌, append_assoc}
 use Rattle.rv_outside.proofs.FilesLemmas.{made_then}
 use Rattle.tool_run.proofs.DestLemmas.{part_written, more_written}
 use Rattle.tool_run.proofs.pieces.write_text.Goals as goal

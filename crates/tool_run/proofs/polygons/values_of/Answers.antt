@@ -1,7 +1,6 @@
-use Rattle.std.proofs.Common.{◌≡◌, ◌∙◌, ◌<◌, ◌++◌, ◌∷◌, [], map, ap, sym, arith}
+use Rattle.std.proofs.Common.{◌∙◌, map, ap, arith}
 use Rattle.std.proofs.lemmas.Grind.{common_steps}
 use Rattle.std.proofs.lemmas.List.{take_all}
-use Rattle.cell_base.specs.Steps.{four}
 use Rattle.sieve_core.proofs.ValueLemmas.{first_inside, firsts_in}
 use Rattle.tool_outcome.specs.Polygonize.{value_of}
 use Rattle.tool_run.proofs.LayerLemmas.{map_more}
@@ -9,14 +8,14 @@ use Rattle.tool_run.proofs.polygons.values_of.Goals as goal
 
 pub get-requires-clause-row : goal.get-requires-clause-row
 get-requires-clause-row c =
-    let labelled = c.requires.1 in
-    let inside = first_inside c.args.regions.now c.components.k c.first-row.result (firsts_in four c.args.cells.now c.requires.0 c.args.regions.now labelled) labelled.numbers.second c.first-row.ensures in
+    let labelled = c.requires.2 in
+    let inside = first_inside c.args.regions.now c.components.k c.first-row.result (firsts_in c.requires.0 c.args.cells.now c.requires.1 c.args.regions.now labelled) labelled.numbers.second c.first-row.ensures in
     omega (arith, inside.0, labelled.numbers.nrows)
 
 pub get-requires-clause-col : goal.get-requires-clause-col
 get-requires-clause-col c =
-    let labelled = c.requires.1 in
-    let inside = first_inside c.args.regions.now c.components.k c.first-row.result (firsts_in four c.args.cells.now c.requires.0 c.args.regions.now labelled) labelled.numbers.second c.first-row.ensures in
+    let labelled = c.requires.2 in
+    let inside = first_inside c.args.regions.now c.components.k c.first-row.result (firsts_in c.requires.0 c.args.cells.now c.requires.1 c.args.regions.now labelled) labelled.numbers.second c.first-row.ensures in
     omega (arith, inside.1, labelled.numbers.ncols)
 
 pub components-preserved : goal.components-preserved

@@ -1,5 +1,4 @@
-use Rattle.std.proofs.Common.{◌≡◌, ◌∙◌, sym, subst}
-use Rattle.tool_words.specs.Job.{job_of}
+use Rattle.std.proofs.Common.{◌∙◌, sym, subst}
 use Rattle.tool_outcome.specs.Message.{IsLine}
 use Rattle.tool_outcome.specs.Status.{status_of}
 use Rattle.tool_run.proofs.RunLemmas.{leaves_part, line_by, line_is, meets}

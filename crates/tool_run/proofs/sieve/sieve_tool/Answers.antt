@@ -1,4 +1,3 @@
-use Rattle.std.proofs.Common.{arith}
 use Rattle.tool_run.proofs.SieveLemmas.{WasSieved, can_be_done, done}
 use Rattle.tool_run.proofs.sieve.sieve_tool.Goals as goal
 

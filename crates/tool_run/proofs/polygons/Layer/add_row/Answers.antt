@@ -1,8 +1,7 @@
 use Rattle.std.proofs.Common.{◌≡◌, ◌∙◌, ◌+◌, ◌++◌, ◌∷◌, [], ap, sym}
-use Rattle.std.specs.List.{zip}
 use Rattle.ogr_csv.specs.Rows.{line_of}
 use Rattle.tool_outcome.specs.Polygonize.{row_of}
-use Rattle.tool_run.specs.Inner.Layer.{rows_left}
+use Rattle.tool_run.specs.Inner.Layer.{components_in, rows_left}
 use Rattle.tool_run.proofs.LayerLemmas.{row_and_rest}
 use Rattle.tool_run.proofs.polygons.Layer.add_row.Goals as goal
 
@@ -15,4 +14,4 @@ returns c =
     ∙ ap (λ value. c.in_ok-row.row.wkt.items ∷ value ∷ []) c.as_slice-2.ensures.value
     ∙ row.row in
     let added : c.add.new.self ≡ c.args.rows.now ++ line_of (row_of layer.frame row.component) = c.in_ok-add.ensures.ok ∙ ap (λ fields. c.args.rows.now ++ line_of fields) fields in
-    row_and_rest (row_of layer.frame) (zip layer.values.items layer.faces) c.args.k row.component c.args.rows.now row.at ∙ ap (λ text. text ++ rows_left layer (c.args.k + 1)) (sym added)
+    row_and_rest (row_of layer.frame) (components_in layer) c.args.k row.component c.args.rows.now row.at ∙ ap (λ text. text ++ rows_left layer (c.args.k + 1)) (sym added)

@@ -6,9 +6,9 @@ use Rattle.tool_run.proofs.polygons.Layer.add_rows.Given as goal
 abbrev pub invariant-rows : goal.invariant-rows
 invariant-rows l = record {
   from : l.from ≤ l.k;
-  within : l.k ≤ length l.self.faces;
+  within : l.k ≤ length l.self.values.items;
   rows : l.fn.rows ++ rows_left l.self l.from ≡ l.rows ++ rows_left l.self l.k;
 }
 
 abbrev pub decreases-rows : goal.decreases-rows
-decreases-rows l = length l.self.faces - l.k
+decreases-rows l = length l.self.values.items - l.k

@@ -1,12 +1,12 @@
-use Rattle.std.proofs.Common.{◌≡◌, ◌∙◌, ◌∷◌, [], ℤ, List, Some, ap, sym, arith}
+use Rattle.std.proofs.Common.{◌≡◌, ◌∙◌, ◌∷◌, [], ℤ, Some, ap, arith}
 use Rattle.std.specs.Prelude.{slice_get}
 use Rattle.std.proofs.lemmas.Grind.{common_steps}
 use Rattle.std.proofs.lemmas.Option.{gets}
 use Rattle.fixed_coord.specs.Shortest.{shortest}
 use Rattle.wkt_text.specs.Spelling.{wkt}
-use Rattle.wkt_text.specs.declared.geometry.Geometry.TheVariants as geometry
-use Rattle.tool_outcome.specs.Polygonize.{paths_of}
-use Rattle.tool_run.proofs.LayerLemmas.{some_at, zip_at}
+use Rattle.tool_outcome.specs.Polygonize.{shape_of}
+use Rattle.tool_run.specs.Inner.Rows.{shapes_of}
+use Rattle.tool_run.proofs.LayerLemmas.{zip_at}
 use Rattle.tool_run.proofs.polygons.Layer.row.Goals as goal
 
 pub returns : goal.returns
@@ -17,7 +17,7 @@ returns c =
     let at_value : slice_get layer.values.items c.args.k ≡ Some value = grind (arith, common_steps, gets) in
     let value_is : c.in_ok-value.value.items ≡ shortest value 0 = grind (arith, common_steps) in
     record {
-      component = (value, drawn.0);
-      at = zip_at layer.values.items layer.faces c.args.k value drawn.0 at_value drawn.1;
-      row = ap (λ t. t ∷ c.in_ok-value.value.items ∷ []) drawn.2 ∙ ap (λ v. wkt (geometry.Polygon (paths_of layer.frame drawn.0)) ∷ v ∷ []) value_is;
+      component = (value, drawn.1.0);
+      at = zip_at layer.values.items (shapes_of layer.parts layer.faces) c.args.k value drawn.1.0 at_value drawn.1.1;
+      row = ap (λ t. t ∷ c.in_ok-value.value.items ∷ []) (drawn.2 ∙ ap wkt drawn.1.2) ∙ ap (λ v. wkt (shape_of layer.frame drawn.1.0) ∷ v ∷ []) value_is;
     }

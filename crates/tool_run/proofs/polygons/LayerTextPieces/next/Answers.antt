@@ -1,4 +1,4 @@
-use Rattle.std.proofs.Common.{◌≡◌, ◌≤◌, ◌∙◌, length, ap, arith}
+use Rattle.std.proofs.Common.{◌≤◌, ◌∙◌, length, ap, arith}
 use Rattle.std.proofs.lemmas.Grind.{common_steps}
 use Rattle.tool_run.specs.Inner.Layer.{layer_left}
 use Rattle.tool_run.proofs.LayerLemmas.{none_left}
