@@ -87,12 +87,13 @@ impl RunLists {
         run as u32
     }
 
-    // Adds the runs of a neighbouring row that touch a run of their units.
+    // Adds the runs of a neighbouring row that touch a run of their units, looked for from a guess on.
     fn join_row<const EIGHT: bool>(
         &mut self,
         rows: &RowRuns,
         at: u32,
         row: u32,
+        guess: u32,
         last: u32,
         number: u32,
     ) -> u32
@@ -107,7 +108,8 @@ impl RunLists {
     {
         let run = rows.runs[at as usize];
         let mut last = last;
-        let first = rows.first_past(row, run.from.saturating_sub(reach::<EIGHT>()));
+        let from = run.from.saturating_sub(reach::<EIGHT>());
+        let first = rows.first_past_from(row, from, guess);
         for i in first..rows.starts[row as usize + 1] as usize {
             if rows.runs[i].from >= run.to + reach::<EIGHT>() {
                 return last;
@@ -136,7 +138,8 @@ impl RunLists {
         if row == 0 {
             return last;
         }
-        self.join_row::<EIGHT>(rows, at, row - 1, last, number)
+        let guess = rows.beside.above(at);
+        self.join_row::<EIGHT>(rows, at, row - 1, guess, last, number)
     }
 
     // Adds the runs of the row below that touch a run of their units.
@@ -158,7 +161,8 @@ impl RunLists {
         if row == rows.nrows {
             return last;
         }
-        self.join_row::<EIGHT>(rows, at, row, last, number)
+        let guess = rows.beside.below(at);
+        self.join_row::<EIGHT>(rows, at, row, guess, last, number)
     }
 
     // Gives a run that is in no component, and all that are joined to it, a number, and links them.
