@@ -1,0 +1,9 @@
+pub mod RunLemmas
+pub mod BurnLemmas
+pub mod ColumnLemmas
+pub mod LinkLemmas
+pub mod RowLemmas
+pub mod ScanLemmas
+pub mod CoverLemmas
+pub mod OrderLemmas
+pub mod BurnExamples

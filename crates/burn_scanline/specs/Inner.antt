@@ -1,0 +1,4 @@
+pub mod Growing
+pub mod Crossing
+pub mod Linking
+pub mod Scan
