@@ -1,0 +1,11 @@
+pub mod MemberLemmas
+pub mod SeriesLemmas
+pub mod LevelLemmas
+pub mod PlaceLemmas
+pub mod ScanLemmas
+pub mod BlockLemmas
+pub mod SideLemmas
+pub mod CrossingLemmas
+pub mod TableLemmas
+pub mod SegmentExamples
+pub mod LevelExamples
