@@ -1,0 +1,9 @@
+pub mod LineLemmas
+pub mod JoinLemmas
+pub mod GatherLemmas
+pub mod WalkLemmas
+pub mod LinkLemmas
+pub mod ChainLemmas
+pub mod StraddleLemmas
+pub mod PointLemmas
+pub mod PathLemmas

@@ -1,0 +1,4 @@
+pub mod Lines
+pub mod Contours
+pub mod Points
+pub mod Inner
