@@ -7,3 +7,4 @@ pub mod ChainLemmas
 pub mod StraddleLemmas
 pub mod PointLemmas
 pub mod PathLemmas
+pub mod PointExamples

@@ -6,7 +6,7 @@ use Rattle.std.proofs.lemmas.List.Elements.{All-contains, Contains-append_left}
 use Rattle.cell_base.proofs.ListDeciders.{contains_cases, contains_here, contains_there}
 use Rattle.contour_chain.specs.Inner.Links.{IsLineOf}
 use Rattle.contour_chain.specs.Lines.{AreLines, ComesFirst, IsClosed, IsLine, IsLongest, LeadsOn, StartsBefore, StartsLeast, end_of}
-use Rattle.contour_segments.proofs.MemberLemmas.{in_flat, none_in, of_flat, once_right, pairs_cons, pairs_head, pairs_nil, pairs_tail}
+use Rattle.contour_segments.proofs.MemberLemmas.{in_flat, none_in, of_flat, once_right, pairs_cons, pairs_head, pairs_nil, pairs_tail, same_order}
 
 -- a list without repeats, and its parts
 
@@ -190,33 +190,6 @@ same_line ends before links (s ∷ ss) (t ∷ ts) apart asym is_g is_h u on_g on
         ]
       ]
     ])
-
--- two ordered lists with the same members are the same
-pub same_order : {A : Type 0} (R : A → A → Type 0) → ((x y : A) → R x y → ¬ R y x) → (xs ys : List A) → AllPairs R xs → AllPairs R ys → ((x : A) → Contains xs x → Contains ys x) → ((x : A) → Contains ys x → Contains xs x) → xs ≡ ys
-same_order R asym [] [] one two more less = refl
-same_order R asym [] (y ∷ ys) one two more less = absurd (none_in y (less y (contains_here y ys)))
-same_order R asym (x ∷ xs) [] one two more less = absurd (none_in x (more x (contains_here x xs)))
-same_order {A} R asym (x ∷ xs) (y ∷ ys) one two more less =
-    let same : x ≡ y = elim (contains_cases y ys x (more x (contains_here x xs))) [
-      | inl here ↦ sym here
-      | inr later_x ↦ elim (contains_cases x xs y (less y (contains_here y ys))) [
-        | inl here ↦ here
-        | inr later_y ↦ absurd (asym x y (pairs_head R x xs one y later_y) (pairs_head R y ys two x later_x))
-      ]
-    ] in
-    let rest_more : (z : A) → Contains xs z → Contains ys z = λ z member. elim (contains_cases y ys z (more z (contains_there x xs z member))) [
-      | inl here ↦
-          let self : R x x = subst (λ w. R x w) (sym (same ∙ here)) (pairs_head R x xs one z member) in
-          absurd (asym x x self self)
-      | inr there ↦ there
-    ] in
-    let rest_less : (z : A) → Contains ys z → Contains xs z = λ z member. elim (contains_cases x xs z (less z (contains_there y ys z member))) [
-      | inl here ↦
-          let self : R y y = subst (λ w. R y w) (sym (sym same ∙ here)) (pairs_head R y ys two z member) in
-          absurd (asym y y self self)
-      | inr there ↦ there
-    ] in
-    ap (λ z. z ∷ xs) same ∙ ap (λ zs. y ∷ zs) (same_order R asym xs ys (pairs_tail R x xs one) (pairs_tail R y ys two) rest_more rest_less)
 
 starts_asym : {A : Type 0} (before : A → A → Type 0) → ((x y : A) → before x y → ¬ before y x) → (g h : List A) → StartsBefore before g h → ¬ StartsBefore before h g
 starts_asym before asym [] h one two = one

@@ -48,7 +48,8 @@ pub record ComesFirst {A P : Type 0} (ends : A → P × P) (before : A → A →
   pub kinds : IsClosed ends g → IsClosed ends h
   pub order : IsClosed ends g ↔ IsClosed ends h → StartsBefore before g h
 
--- the lines that links make: each link stands in just one of them, once; open ones can't be made longer, and closed ones start at their least link
+-- the lines that links make: each link stands in just one of them, once; open ones can't be made longer, and closed
+-- ones start at their least link
 pub record AreLines {A P : Type 0} (ends : A → P × P) (before : A → A → Type 0) (links : List A) (lines : List (List A)) : Type 0 where
   pub all : (s : A) → Contains (flat_map (λ line. line) lines) s ↔ Contains links s
   pub once : AllPairs (λ s t. s ≢ t) (flat_map (λ line. line) lines)

@@ -1,4 +1,5 @@
--- The points of a contour line. A crossing divides the way between the two centres linearly; rounding, and that equal neighbours are written once, are this project's own.
+-- The points of a contour line. A crossing divides the way between the two centres linearly; rounding, and that
+-- equal neighbours are written once, are this project's own.
 use Rattle.std.specs.Prelude.{ℕ, ℤ, ◌+◌, ◌+ℤ◌, ◌-ℤ◌, ◌*ℤ◌, int_le, pos, unsigned_abs, Bool, ◌&&◌, if◌then◌else◌, List, [], ◌∷◌, Option, Some, None, map, Contains}
 use Rattle.std.specs.Ordering.{int_eq}
 use Rattle.fixed_coord.specs.Round.{round_half_away}
@@ -14,7 +15,8 @@ use Rattle.wkt_text.specs.declared.geometry.Geometry.TheVariants.{LineString}
 use Rattle.contour_chain.specs.Contours.{AreContours}
 use Rattle.contour_chain.specs.declared.point.Spot.{Spot}
 
--- a crossing lies at the fraction (level - low) / (high - low) of the way from the low centre to the high one; of centres their coordinate is given twice. This much stands above the bar, and this much below
+-- a crossing lies at the fraction (level - low) / (high - low) of the way from the low centre to the high one; of
+-- centres their coordinate is given twice. This much stands above the bar, and this much below
 abbrev pub above_bar : ℤ → Spot → Spot → ℤ
 above_bar level low high = low.twice *ℤ (high.value -ℤ level) +ℤ high.twice *ℤ (level -ℤ low.value)
 

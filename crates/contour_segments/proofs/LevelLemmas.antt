@@ -21,7 +21,7 @@ use Rattle.contour_segments.specs.Levels.{AreLevels, IsAsked}
 use Rattle.contour_segments.specs.Inner.Series.{AreOthers, AreSpaced, IsAt, level_at}
 use Rattle.contour_segments.specs.declared.level.LevelSpec.{LevelSpec}
 use Rattle.contour_segments.specs.declared.series.Series.{Series}
-use Rattle.contour_segments.proofs.MemberLemmas.{in_map, in_range, none_in, of_map, of_range, once_join, pairs_cons, pairs_head, pairs_map, pairs_nil, pairs_tail, range_rises}
+use Rattle.contour_segments.proofs.MemberLemmas.{in_map, in_range, none_in, of_map, of_range, once_join, pairs_cons, pairs_head, pairs_map, pairs_nil, pairs_tail, range_rises, same_order}
 use Rattle.contour_segments.proofs.SeriesLemmas.{at_or_not, level_at_rises}
 
 -- the kept levels are those of the passed ones that aren't in the series
@@ -250,3 +250,11 @@ levels_counted spec range series others some spaced are =
       },
       omega (arith, made.1.long, all_long series others),
     )
+
+-- two lists of the same levels are one
+
+less_asym : (a b : ℤ) → a <ℤ b → ¬ (b <ℤ a)
+less_asym a b one two = omega (arith, ints, one, two)
+
+pub one_list_of_levels : (spec : LevelSpec) (range : Option (ℤ × ℤ)) (a b : List ℤ) → AreLevels spec range a → AreLevels spec range b → a ≡ b
+one_list_of_levels spec range a b one two = same_order (λ x y. x <ℤ y) less_asym a b one.rising two.rising (λ level has. (two.all level).1 ((one.all level).0 has)) (λ level has. (one.all level).1 ((two.all level).0 has))

@@ -1,5 +1,5 @@
 -- Members of lists that are joined end to end, and lists without repeats.
-use Rattle.std.proofs.Common.{◌≡◌, ◌≢◌, ℕ, zero, suc, ◌+◌, ◌<◌, ◌≤◌, inl, inr, List, [], ◌∷◌, ◌++◌, sym, ap, subst, arith}
+use Rattle.std.proofs.Common.{◌∙◌, refl, ◌≡◌, ◌≢◌, ℕ, zero, suc, ◌+◌, ◌<◌, ◌≤◌, inl, inr, List, [], ◌∷◌, ◌++◌, sym, ap, subst, arith}
 use Rattle.std.specs.Prelude.{All, AllPairs, Contains, map}
 use Rattle.std.specs.List.{flat_map, range_with_len}
 use Rattle.std.proofs.lemmas.List.Elements.{All-nil, All-cons, Contains-append_cases, Contains-append_left, Contains-append_right}
@@ -153,3 +153,30 @@ pairs_flat {A} {B} R f (x ∷ xs) each across =
     pairs_join R (f x) (flat_map f xs) (each x (contains_here x xs)) (pairs_flat R f xs (λ y member. each y (contains_there x xs y member)) (pairs_tail Across x xs across)) (λ a b on_a on_b.
     let found = of_flat f xs b on_b in
     pairs_head Across x xs across found.0 found.1 a b on_a found.2)
+
+-- two ordered lists with the same members are the same
+pub same_order : {A : Type 0} (R : A → A → Type 0) → ((x y : A) → R x y → ¬ R y x) → (xs ys : List A) → AllPairs R xs → AllPairs R ys → ((x : A) → Contains xs x → Contains ys x) → ((x : A) → Contains ys x → Contains xs x) → xs ≡ ys
+same_order R asym [] [] one two more less = refl
+same_order R asym [] (y ∷ ys) one two more less = absurd (none_in y (less y (contains_here y ys)))
+same_order R asym (x ∷ xs) [] one two more less = absurd (none_in x (more x (contains_here x xs)))
+same_order {A} R asym (x ∷ xs) (y ∷ ys) one two more less =
+    let same : x ≡ y = elim (contains_cases y ys x (more x (contains_here x xs))) [
+      | inl here ↦ sym here
+      | inr later_x ↦ elim (contains_cases x xs y (less y (contains_here y ys))) [
+        | inl here ↦ here
+        | inr later_y ↦ absurd (asym x y (pairs_head R x xs one y later_y) (pairs_head R y ys two x later_x))
+      ]
+    ] in
+    let rest_more : (z : A) → Contains xs z → Contains ys z = λ z member. elim (contains_cases y ys z (more z (contains_there x xs z member))) [
+      | inl here ↦
+          let self : R x x = subst (λ w. R x w) (sym (same ∙ here)) (pairs_head R x xs one z member) in
+          absurd (asym x x self self)
+      | inr there ↦ there
+    ] in
+    let rest_less : (z : A) → Contains ys z → Contains xs z = λ z member. elim (contains_cases x xs z (less z (contains_there y ys z member))) [
+      | inl here ↦
+          let self : R y y = subst (λ w. R y w) (sym (sym same ∙ here)) (pairs_head R y ys two z member) in
+          absurd (asym y y self self)
+      | inr there ↦ there
+    ] in
+    ap (λ z. z ∷ xs) same ∙ ap (λ zs. y ∷ zs) (same_order R asym xs ys (pairs_tail R x xs one) (pairs_tail R y ys two) rest_more rest_less)

@@ -11,7 +11,8 @@ pub record CrossOnce (cells : Raster ℤ) (valid : Raster Bool) (level : ℤ) : 
   pub starts : AllPairs (λ s t. s.from ≢ t.from) (segments_of cells valid level)
   pub ends : AllPairs (λ s t. s.to ≢ t.to) (segments_of cells valid level)
 
--- the corner on the right of one who comes into a lattice cell over a side, seen with y upwards, and the one on the left
+-- the corner on the right of one who comes into a lattice cell over a side, seen with y upwards, and the one on the
+-- left
 abbrev pub right_corner : Place → Side → Place
 right_corner (r, c) Top = (r, c)
 right_corner (r, c) Right = (r, c + 1)
@@ -31,7 +32,8 @@ IsHighRight cells level place side = (is_high cells level (right_corner place si
 abbrev pub IsHighLeft : Raster ℤ → ℤ → Place → Side → Type 0
 IsHighLeft cells level place side = (is_high cells level (left_corner place side) ≡ true) × (is_high cells level (right_corner place side) ≡ false)
 
--- a segment comes into its lattice cell over one side and goes out over another, with the high corners on its right: who goes out has on the right what one who comes in has on the left
+-- a segment comes into its lattice cell over one side and goes out over another, with the high corners on its right:
+-- who goes out has on the right what one who comes in has on the left
 pub record KeepsHighRight (cells : Raster ℤ) (level : ℤ) (s : Segment) : Type 0 where
   pub comes_over : Side
   pub goes_over : Side

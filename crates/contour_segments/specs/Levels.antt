@@ -1,4 +1,5 @@
--- Which levels are drawn (manual of gdal_contour, options -i, -off and -fl). That both kinds are drawn, each level once, and the ends of the range are this project's own.
+-- Which levels are drawn (manual of gdal_contour, options -i, -off and -fl). That both kinds are drawn, each level
+-- once, and the ends of the range are this project's own.
 use Rattle.std.specs.Prelude.{◌≡◌, ℕ, ℤ, ◌+ℤ◌, ◌*ℤ◌, ◌<ℤ◌, ◌≤ℤ◌, ◌↔◌, ◌⊎◌, pos, List, Option, AllPairs, Contains}
 use Rattle.std.specs.Option.{ForSome, IsSomeAnd}
 use Rattle.contour_segments.specs.declared.level.LevelSpec.{LevelSpec}

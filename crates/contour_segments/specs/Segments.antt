@@ -1,4 +1,5 @@
--- The segments of a contour level, by marching squares: the lattice has its corners at the centres of the cells. The directions of the segments and the rule for saddles are this project's own.
+-- The segments of a contour level, by marching squares: the lattice has its corners at the centres of the cells. The
+-- directions of the segments and the rule for saddles are this project's own.
 use Rattle.std.specs.Prelude.{◌≡◌, ℕ, ℤ, ◌+◌, ◌-◌, ◌<◌, ◌⊎◌, ◌+ℤ◌, ◌*ℤ◌, int_le, pos, Bool, true, false, ◌&&◌, if◌then◌else◌, List, [], ◌∷◌, map, unwrap_or}
 use Rattle.std.specs.List.{flat_map, range_with_len}
 use Rattle.cell_base.specs.Raster.{Place, Raster, value_at}
@@ -8,14 +9,16 @@ use Rattle.contour_segments.specs.declared.segment.Segment.{Segment}
 use Rattle.contour_segments.specs.declared.side.Side.{Side}
 use Rattle.contour_segments.specs.declared.side.Side.TheVariants.{Top, Right, Bottom, Left}
 
--- a lattice cell, named by the centre (r, c) at its upper left, has its other corners at (r, c + 1), (r + 1, c + 1) and (r + 1, c). Its sides as edges of the lattice
+-- a lattice cell, named by the centre (r, c) at its upper left, has its other corners at (r, c + 1), (r + 1, c + 1)
+-- and (r + 1, c). Its sides as edges of the lattice
 abbrev pub cross_on : Place → Side → Cross
 cross_on (r, c) Top = record { row = r; col = c; down = false }
 cross_on (r, c) Right = record { row = r; col = c + 1; down = true }
 cross_on (r, c) Bottom = record { row = r + 1; col = c; down = false }
 cross_on (r, c) Left = record { row = r; col = c; down = true }
 
--- from which side to which the segments of a lattice cell lead, by which corners are high: upper left, upper right, lower right, lower left. Where just two corners across are high, it says whether those two are joined
+-- from which side to which the segments of a lattice cell lead, by which corners are high: upper left, upper right,
+-- lower right, lower left. Where just two corners across are high, it says whether those two are joined
 abbrev pub sides_of : Bool → Bool → Bool → Bool → Bool → List (Side × Side)
 sides_of false false false false joined = []
 sides_of false false false true joined = (Left, Bottom) ∷ []

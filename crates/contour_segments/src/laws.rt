@@ -1,10 +1,17 @@
-// What holds of the segments of every level.
-ghost use Rattle.std.specs.Prelude.{ℤ, AllPairs, Bool, Contains};
+// What holds of levels, and of the segments of every level.
+ghost use Rattle.std.specs.Prelude.{◌≡◌, ℤ, AllPairs, Bool, Contains, List, Option};
 ghost use Rattle.cell_base.specs.Raster.{Place, Raster};
+ghost use Rattle.contour_segments.specs.Levels.{AreLevels};
+ghost use Rattle.contour_segments.specs.declared.level.LevelSpec.{LevelSpec};
 ghost use Rattle.contour_segments.specs.Segments.{ComesBefore, segments_of};
 ghost use Rattle.contour_segments.specs.Crossings.{CrossOnce, CrossesEach, IsLatticeCell, KeepsHighRight};
 ghost use Rattle.contour_segments.specs.declared.segment.Segment.{Segment};
 ghost use Rattle.contour_segments.specs.declared.side.Side.{Side};
+
+/// At most one list has the levels that are asked for, in ascending order and each once.
+pub fn levels_make_one_list()
+    ensures { (spec : LevelSpec) (range : Option (ℤ × ℤ)) (a b : List ℤ) → AreLevels spec range a → AreLevels spec range b → a ≡ b }
+{}
 
 /// The segments of a level stand in order of row, column and turn.
 pub fn segments_stand_in_order()

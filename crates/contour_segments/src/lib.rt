@@ -12,8 +12,8 @@ mod span;
 mod table;
 
 pub use laws::{
-    each_crossed_side_has_its_segment, segments_cross_once, segments_keep_high_on_right,
-    segments_stand_in_order,
+    each_crossed_side_has_its_segment, levels_make_one_list, segments_cross_once,
+    segments_keep_high_on_right, segments_stand_in_order,
 };
 pub use level::{LevelFault, LevelSpec, levels};
 pub use lists::{LevelList, SegmentList};

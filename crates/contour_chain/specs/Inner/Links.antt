@@ -24,7 +24,8 @@ abbrev pub IsBeyondIf : Side → Place → Option Place → Type 0
 IsBeyondIf side p None = (q : Place) → ¬ IsBeyond side p q
 IsBeyondIf side p (Some q) = IsBeyond side p q
 
--- the segments of a level: in order, at most two in a lattice cell, and each goes on in the lattice cell beyond the side over which it goes out
+-- the segments of a level: in order, at most two in a lattice cell, and each goes on in the lattice cell beyond the
+-- side over which it goes out
 pub record AreLinked (segments : List Segment) : Type 0 where
   pub order : AllPairs ComesBefore segments
   pub turns : (s : Segment) → Contains segments s → s.turn < 2
@@ -54,7 +55,8 @@ pub record StartsAt (segments : List Segment) (cross : Cross) (n : ℕ) : Type 0
   pub found : (s : Segment) → slice_get segments n ≡ Some s → s.from ≡ cross
   pub none : n ≡ length segments → (s : Segment) → Contains segments s → s.from ≢ cross
 
--- a segment that starts at the crossing lies in one lattice cell, and this is the first index whose segment doesn't lie before it
+-- a segment that starts at the crossing lies in one lattice cell, and this is the first index whose segment doesn't
+-- lie before it
 pub record IsFirstAt (segments : List Segment) (cross : Cross) (n : ℕ) : Type 0 where
   pub place : Place
   pub first : IsFirstFrom segments place n
