@@ -1,4 +1,5 @@
 pub mod MaskLemmas
 pub mod SieveLemmas
 pub mod PolygonizeLemmas
+pub mod ContourLemmas
 pub mod OneOutcomeLemmas

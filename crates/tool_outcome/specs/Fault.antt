@@ -5,9 +5,11 @@ use Rattle.rv_outside.specs.declared.transfer.FetchFault.{FetchFault}
 use Rattle.rv_outside.specs.declared.transfer.FetchFault.TheVariants as fetch
 use Rattle.asc_grid.specs.declared.fault.GridFault.{GridFault}
 use Rattle.asc_grid.specs.declared.fault.GridFault.TheVariants as grid
+use Rattle.contour_segments.specs.declared.level.LevelFault.{LevelFault}
+use Rattle.contour_segments.specs.declared.level.LevelFault.TheVariants as level
 use Rattle.tool_outcome.specs.declared.fault.Role.TheVariants.{Source}
 use Rattle.tool_outcome.specs.declared.fault.Fault.{Fault}
-use Rattle.tool_outcome.specs.declared.fault.Fault.TheVariants.{Missing, ReadFault, Grid, WriteFault, NoMemory}
+use Rattle.tool_outcome.specs.declared.fault.Fault.TheVariants.{Missing, ReadFault, Grid, TooManyLevels, WriteFault, NoMemory}
 
 -- the fault of a source that could not be read
 abbrev pub of_fetch : FetchFault → Fault
@@ -24,3 +26,8 @@ of_write trouble.NoMemory = NoMemory
 abbrev pub of_grid : GridFault → Fault
 of_grid (grid.At kind line) = Grid Source (grid.At kind line)
 of_grid grid.NoMemory = NoMemory
+
+-- the fault of levels that could not be listed
+abbrev pub of_levels : LevelFault → Fault
+of_levels (level.TooMany count) = TooManyLevels count
+of_levels level.NoMemory = NoMemory

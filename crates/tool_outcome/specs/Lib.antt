@@ -5,4 +5,5 @@ pub mod Message
 pub mod Answer
 pub mod Sieve
 pub mod Polygonize
+pub mod Contour
 pub mod Outcome

@@ -71,6 +71,7 @@ abbrev pub line_of_fault : Text → Text → Fault → List ℕ
 line_of_fault source dest (fault.Missing role) = source ++ codes ": no such file\n"
 line_of_fault source dest (fault.ReadFault role) = source ++ codes ": read failed\n"
 line_of_fault source dest (fault.Grid role offence) = line_of_grid source offence
+line_of_fault source dest (fault.TooManyLevels count) = codes "levels: too many: " ++ decimal count ++ codes "\n"
 line_of_fault source dest fault.WriteFault = dest ++ codes ": write failed\n"
 line_of_fault source dest fault.NotBuilt = codes "not built\n"
 line_of_fault source dest fault.NoMemory = codes "out of memory\n"

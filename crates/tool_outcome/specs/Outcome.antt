@@ -8,6 +8,7 @@ use Rattle.tool_words.specs.declared.fault.WordFault.{WordFault}
 use Rattle.tool_words.specs.declared.job.Job.{Job}
 use Rattle.tool_words.specs.declared.job.Job.TheVariants.{Sieve, Polygonize, Rasterize, Contour}
 use Rattle.tool_outcome.specs.Answer.{Answer}
+use Rattle.tool_outcome.specs.Contour.{IsContourAnswer}
 use Rattle.tool_outcome.specs.Message.{dest_of_job, line_of_job, line_of_words}
 use Rattle.tool_outcome.specs.Polygonize.{IsPolygonizeAnswer}
 use Rattle.tool_outcome.specs.Sieve.{IsSieveAnswer}
@@ -29,12 +30,13 @@ abbrev pub is_built : Job → Bool
 is_built (Sieve job) = true
 is_built (Polygonize job) = true
 is_built (Rasterize job) = false
-is_built (Contour job) = false
+is_built (Contour job) = true
 
 -- the answer for a job
 abbrev pub IsAnswerFor : Job → Files → Answer → Type 0
 IsAnswerFor (Sieve job) files answer = IsSieveAnswer job files answer
 IsAnswerFor (Polygonize job) files answer = IsPolygonizeAnswer job files answer
+IsAnswerFor (Contour job) files answer = IsContourAnswer job files answer
 IsAnswerFor other files answer = answer ≡ Err NotBuilt
 
 -- the end of a run whose words are refused: all files stay

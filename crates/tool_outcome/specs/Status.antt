@@ -43,6 +43,7 @@ abbrev pub status_of_fault : Fault → Status
 status_of_fault (fault.Missing role) = Missing
 status_of_fault (fault.ReadFault role) = ReadFault
 status_of_fault (fault.Grid role offence) = status_of_grid offence
+status_of_fault (fault.TooManyLevels count) = TooLarge
 status_of_fault fault.WriteFault = WriteFault
 status_of_fault fault.NotBuilt = NotBuilt
 status_of_fault fault.NoMemory = NoMemory

@@ -1,5 +1,6 @@
 // Why a tool did not do its job.
 use asc_grid::GridFault;
+use contour_segments::LevelFault;
 use rv_outside::{FetchFault, Trouble};
 use std::alloc::AllocError;
 use thiserror::Error;
@@ -23,6 +24,9 @@ pub enum Fault {
     /// The text has no grid.
     #[error("no grid")]
     Grid(Role, GridFault),
+    /// More levels are asked for than are drawn: so many.
+    #[error("too many levels")]
+    TooManyLevels(u64),
     /// The destination could not be made, or a write to it failed.
     #[error("write failed")]
     WriteFault,
@@ -87,6 +91,20 @@ impl From<Trouble> for Fault {
         match trouble {
             Trouble::Failed => Fault::WriteFault,
             Trouble::NoMemory => Fault::NoMemory,
+        }
+    }
+}
+
+impl From<LevelFault> for Fault {
+    ghost use Rattle.std.specs.Prelude.{◌≡◌};
+    ghost use Rattle.tool_outcome.specs.Fault.{of_levels};
+
+    ghost from_gives = { λ levels fault. fault ≡ of_levels levels };
+
+    fn from(levels: LevelFault) -> Fault {
+        match levels {
+            LevelFault::TooMany(count) => Fault::TooManyLevels(count),
+            LevelFault::NoMemory => Fault::NoMemory,
         }
     }
 }

@@ -3,8 +3,10 @@ ghost use Rattle.std.specs.Prelude.{ℤ, List};
 ghost use Rattle.rv_outside.specs.Files.{Files};
 ghost use Rattle.asc_grid.specs.declared.grid.Asc.{Asc};
 ghost use Rattle.tool_words.specs.Words.{Text};
+ghost use Rattle.tool_words.specs.declared.job.ContourJob.{ContourJob};
 ghost use Rattle.tool_words.specs.declared.job.PolygonizeJob.{PolygonizeJob};
 ghost use Rattle.tool_words.specs.declared.job.SieveJob.{SieveJob};
+ghost use Rattle.tool_outcome.specs.Contour.{HasOneContourText};
 ghost use Rattle.tool_outcome.specs.Outcome.{HasOneOutcome};
 ghost use Rattle.tool_outcome.specs.Polygonize.{HasOneLayer};
 ghost use Rattle.tool_outcome.specs.Sieve.{AgreesWithSieve};
@@ -24,4 +26,10 @@ pub fn writes_the_sieved_grid()
 /// polygon, and all else follows from the grid.
 pub fn polygonize_text_is_one()
     ensures { (job : PolygonizeJob) (asc : Asc ℤ) → HasOneLayer job asc }
+{}
+
+/// A grid has at most one contour text: the levels that are asked for have one list, and the segments of each level make
+/// one list of lines.
+pub fn contour_text_is_one()
+    ensures { (job : ContourJob) (asc : Asc ℤ) → HasOneContourText job asc }
 {}

@@ -8,5 +8,7 @@ mod laws;
 mod status;
 
 pub use fault::{Fault, Role};
-pub use laws::{outcome_is_one, polygonize_text_is_one, writes_the_sieved_grid};
+pub use laws::{
+    contour_text_is_one, outcome_is_one, polygonize_text_is_one, writes_the_sieved_grid,
+};
 pub use status::Status;

@@ -182,7 +182,7 @@ no_longer [] ys = omega arith
 no_longer (x ∷ xs) [] = omega arith
 no_longer (x ∷ xs) (y ∷ ys) = omega (arith, no_longer xs ys)
 
-drop_past : {A : Type 0} (xs : List A) (n : ℕ) → length xs ≤ n → drop n xs ≡ []
+pub drop_past : {A : Type 0} (xs : List A) (n : ℕ) → length xs ≤ n → drop n xs ≡ []
 drop_past xs n past = grind (arith, common_steps, past)
 
 pub none_left : (layer : Layer) (next : ℕ) → length layer.values.items ≤ next → rows_left layer next ≡ []

@@ -5,3 +5,7 @@ pub mod SourceLemmas
 pub mod RunLemmas
 pub mod LayerLemmas
 pub mod PolygonizeLemmas
+pub mod RangeLemmas
+pub mod IntervalLemmas
+pub mod DrawingLemmas
+pub mod ContourLemmas

@@ -4,7 +4,9 @@ ghost use Rattle.tool_outcome.specs.Message.{dest_of_job, source_of_job};
 ghost use Rattle.tool_outcome.specs.Outcome.{CanBeDone, Does, LeavesPart, is_built};
 ghost use Rattle.tool_outcome.specs.Status.{IsDecided, status_of};
 ghost use Rattle.tool_run.specs.Causes.{HasCauses};
+ghost use Rattle.tool_run.specs.Inner.Ranges.{HasInterval};
 
+use crate::contours::contour;
 use crate::polygons::polygonize;
 use crate::sieve::sieve_tool;
 use rv_outside::Folder;
@@ -38,6 +40,7 @@ pub(crate) fn dest_name(job: &Job) -> &str
 
 /// Does a job.
 pub(crate) fn do_job<F: Folder>(alloc: Global, job: &Job, folder: &mut F) -> Result<(), Fault>
+    requires interval { HasInterval job.now }
     ensures outcome { IsDecided (status_of result) → IfSome (F.state folder.old).files
         (λ files. Does job.now files result (F.state folder.new).files) }
     ensures part { OnErr result (IfSome (F.state folder.old).files
@@ -52,6 +55,7 @@ pub(crate) fn do_job<F: Folder>(alloc: Global, job: &Job, folder: &mut F) -> Res
     match job {
         Job::Sieve(job) => sieve_tool(alloc, job, folder),
         Job::Polygonize(job) => polygonize(alloc, job, folder),
+        Job::Contour(job) => contour(alloc, job, folder),
         _ => Err(Fault::NotBuilt),
     }
 }

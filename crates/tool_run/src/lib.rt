@@ -5,6 +5,8 @@
 //! defines from the words and the files. Each tool has a file; `jobs` is the table of tools.
 #![tactic(auto)]
 
+mod contours;
+mod drawing;
 mod grid_file;
 mod jobs;
 mod message;
@@ -13,6 +15,7 @@ mod polygons;
 mod program;
 mod sieve;
 
+pub use contours::contour;
 pub use polygons::polygonize;
 pub use program::run;
 pub use sieve::sieve_tool;

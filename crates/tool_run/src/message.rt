@@ -1,5 +1,5 @@
 // The line on standard error.
-ghost use Rattle.std.specs.Prelude.{◌≡◌, ◌++◌};
+ghost use Rattle.std.specs.Prelude.{◌≡◌, ◌++◌, codes, decimal};
 ghost use Rattle.rv_outside.specs.Sink.{Says};
 ghost use Rattle.asc_grid.specs.declared.fault.GridFault.TheVariants.{At};
 ghost use Rattle.tool_outcome.specs.Message.{grid_text, line_of_grid, line_of_words, word_text};
@@ -27,6 +27,15 @@ pub fn say_line<S: Sink>(sink: &mut S, name: &str, text: &str)
     ensures { SaysLine (name.now ++ text.now) (S.state sink.old) (S.state sink.new) }
 {
     let _ = say_three(sink, name.as_bytes(), text.as_bytes(), b"");
+}
+
+/// Writes the line of a text with a number behind it. A sink that fails is let be.
+pub fn say_number<S: Sink>(sink: &mut S, text: &str, number: u64)
+    ensures { SaysLine (text.now ++ decimal number ++ codes "\n") (S.state sink.old) (S.state sink.new) }
+{
+    let mut digits = Buffer::new();
+    let number = digits.format(number).as_bytes();
+    let _ = say_three(sink, text.as_bytes(), number, b"\n");
 }
 
 fn word_text(kind: WordKind) -> &'static str

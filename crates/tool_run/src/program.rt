@@ -8,7 +8,7 @@ ghost use Rattle.tool_run.specs.Causes.{HasCauses};
 ghost use Rattle.tool_run.specs.Line.{SaysLine};
 
 use crate::jobs::{dest_name, do_job, source_name};
-use crate::message::{say_line, say_offence, say_word};
+use crate::message::{say_line, say_number, say_offence, say_word};
 use asc_grid::{GridFault, GridKind};
 use rv_outside::{Folder, Sink};
 use std::alloc::Global;
@@ -74,6 +74,10 @@ fn report<E: Sink>(source: &str, dest: &str, answer: Result<(), Fault>, err: &mu
             Status::ReadFault
         }
         Err(Fault::Grid(_, offence)) => say_grid(source, offence, err),
+        Err(Fault::TooManyLevels(count)) => {
+            say_number(err, "levels: too many: ", count);
+            Status::TooLarge
+        }
         Err(Fault::WriteFault) => {
             say_line(err, dest, ": write failed\n");
             Status::WriteFault

@@ -45,7 +45,7 @@ grid_number (TooLarge cells) = decimal cells
 grid_number kind = []
 
 -- a grid over a frame of its size
-pub record IsOverFrame (asc : Asc ℤ) : Type 0 where
+pub record IsOverFrame {T : Type 0} (asc : Asc T) : Type 0 where
   pub frame : IsFrame asc.frame
   pub ncols : asc.cells.ncols ≡ asc.frame.ncols
   pub nrows : asc.cells.nrows ≡ asc.frame.nrows

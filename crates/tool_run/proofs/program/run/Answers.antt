@@ -1,8 +1,20 @@
-use Rattle.std.proofs.Common.{◌∙◌, sym, subst}
-use Rattle.tool_outcome.specs.Message.{IsLine}
+use Rattle.std.proofs.Common.{◌∙◌, refl, sym, subst}
+use Rattle.tool_words.specs.Job.{job_of}
+use Rattle.tool_outcome.specs.Message.{IsLine, line_of_words}
 use Rattle.tool_outcome.specs.Status.{status_of}
-use Rattle.tool_run.proofs.RunLemmas.{leaves_part, line_by, line_is, meets}
+use Rattle.tool_run.proofs.IntervalLemmas.{has_interval}
+use Rattle.tool_run.proofs.RunLemmas.{leaves_part, line_by, line_is, meets, refused}
 use Rattle.tool_run.proofs.program.run.Goals as goal
+
+pub do_job-answer-requires : goal.do_job-answer-requires
+do_job-answer-requires g c = record { interval = has_interval c.args.words.now c.in-Ok.job c.in-Ok.ensures }
+
+pub returns-in-Err-clause-outcome : goal.returns-in-Err-clause-outcome
+returns-in-Err-clause-outcome g c =
+    let words = c.args.words.now in
+    let fault = c.in-Err.fault in
+    let told = refused words fault (job_of words) (g.F.Folder.state c.args.folder.now).files refl c.in-Err.ensures in
+    rw c.refuse.ensures.status (line_of_words fault, told.0, c.refuse.ensures.line, told.1)
 
 pub returns-clause-outcome : goal.returns-clause-outcome
 returns-clause-outcome g c =
