@@ -4,6 +4,8 @@
 #![tactic(auto)]
 
 #[cfg(test)]
+mod contouring;
+#[cfg(test)]
 mod disk;
 #[cfg(test)]
 mod faults;

@@ -97,12 +97,7 @@ fn the_first_fault_of_the_words_is_told(rt: HostRuntime) -> Result<(), Fail> {
 #[test]
 fn jobs_that_are_not_built_and_files_that_are_missing(rt: HostRuntime) -> Result<(), Fail> {
     let alloc = rt.alloc();
-    let examples: [(&[&str], Status, &[u8]); 3] = [
-        (
-            &["gdal_contour", "-i", "5", "src.asc", "dst.asc"],
-            Status::NotBuilt,
-            b"not built\n",
-        ),
+    let examples: [(&[&str], Status, &[u8]); 2] = [
         (
             &[
                 "gdal_rasterize",
