@@ -5,3 +5,8 @@ pub mod SourceLemmas
 pub mod RunLemmas
 pub mod LayerLemmas
 pub mod PolygonizeLemmas
+pub mod LayerFileLemmas
+pub mod ExtentLemmas
+pub mod StrokeLemmas
+pub mod CellTextLemmas
+pub mod BurnLemmas

@@ -1,3 +1,6 @@
 pub mod Steps
 pub mod Rows
 pub mod Layer
+pub mod LayerFile
+pub mod Extent
+pub mod Strokes

@@ -5,6 +5,7 @@ ghost use Rattle.tool_outcome.specs.Outcome.{CanBeDone, Does, LeavesPart, is_bui
 ghost use Rattle.tool_outcome.specs.Status.{IsDecided, status_of};
 ghost use Rattle.tool_run.specs.Causes.{HasCauses};
 
+use crate::burning::rasterize;
 use crate::polygons::polygonize;
 use crate::sieve::sieve_tool;
 use rv_outside::Folder;
@@ -52,6 +53,7 @@ pub(crate) fn do_job<F: Folder>(alloc: Global, job: &Job, folder: &mut F) -> Res
     match job {
         Job::Sieve(job) => sieve_tool(alloc, job, folder),
         Job::Polygonize(job) => polygonize(alloc, job, folder),
-        _ => Err(Fault::NotBuilt),
+        Job::Rasterize(job) => rasterize(alloc, job, folder),
+        Job::Contour(_) => Err(Fault::NotBuilt),
     }
 }

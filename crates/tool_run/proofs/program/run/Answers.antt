@@ -1,7 +1,7 @@
 use Rattle.std.proofs.Common.{◌∙◌, sym, subst}
 use Rattle.tool_outcome.specs.Message.{IsLine}
 use Rattle.tool_outcome.specs.Status.{status_of}
-use Rattle.tool_run.proofs.RunLemmas.{leaves_part, line_by, line_is, meets}
+use Rattle.tool_run.proofs.RunLemmas.{leaves_part, line_by, line_is, meets, refuses}
 use Rattle.tool_run.proofs.program.run.Goals as goal
 
 pub returns-clause-outcome : goal.returns-clause-outcome
@@ -19,3 +19,6 @@ returns-clause-outcome g c =
 pub returns-clause-part : goal.returns-clause-part
 returns-clause-part g c = λ not_done.
     leaves_part _ _ c.args.words.now c.in-Ok.job c.do_job-answer.result c.in-Ok.ensures (λ done. not_done (c.report.ensures.status ∙ done)) c.do_job-answer.ensures.part
+
+pub returns-in-Err-clause-outcome : goal.returns-in-Err-clause-outcome
+returns-in-Err-clause-outcome g c = refuses _ c.args.words.now c.in-Err.fault c.refuse.result _ _ (c.in-Err.ensures {u = tt}) c.refuse.ensures.status c.refuse.ensures.line
