@@ -1,8 +1,8 @@
 -- Small layers and what gdal_rasterize makes of them, computed from the definitions.
-use Rattle.std.proofs.Common.{◌≡◌, ℕ, ℤ, ◌*◌, ◌^◌, true, false, List, [], ◌∷◌, Option, Some, None, Ok, Err, refl, pos}
-use Rattle.std.specs.Prelude.{codes, neg_ℤ}
+use Rattle.std.proofs.Common.{◌≡◌, ℕ, ℤ, ◌*◌, ◌^◌, true, false, List, [], ◌∷◌, Some, None, Ok, Err, refl, pos}
+use Rattle.std.specs.Prelude.{codes}
 use Rattle.std.specs.Fmt.{digits}
-use Rattle.cell_base.specs.declared.kind.CellKind.TheVariants.{Byte, Int64}
+use Rattle.cell_base.specs.declared.kind.CellKind.TheVariants.{Byte}
 use Rattle.geo_transform.specs.declared.extent.Extent.{Extent}
 use Rattle.geo_transform.specs.declared.fault.FrameFault.TheVariants.{BadCell, BadSize, NotSquare, TooLarge}
 use Rattle.geo_transform.specs.declared.frame.Frame.{Frame}
@@ -16,7 +16,7 @@ use Rattle.ogr_csv.specs.declared.feature.Feature.{Feature}
 use Rattle.tool_words.specs.declared.job.RasterizeJob.{RasterizeJob}
 use Rattle.tool_words.specs.declared.job.SizeFrom.TheVariants.{Cells, Res}
 use Rattle.tool_words.specs.declared.job.ValueFrom.TheVariants.{Burn, Field}
-use Rattle.tool_outcome.specs.Features.{features_of, first_other}
+use Rattle.tool_outcome.specs.Features.{features_of}
 use Rattle.tool_outcome.specs.LayerExtent.{layer_extent}
 use Rattle.tool_outcome.specs.Rasterize.{burned_cells, of_layer}
 use Rattle.tool_outcome.specs.declared.fault.Fault.TheVariants.{Frame as FrameOf, NoExtent, NotPolygon}

@@ -1,6 +1,6 @@
 -- The features of a layer that is burned. Source: the layer is OGR's, in this project's profile; which features are burned,
 -- and that points and lines are refused, is this project's own.
-use Rattle.std.specs.Prelude.{ℕ, ℤ, ◌+◌, ◌<◌, Bool, true, false, not, List, [], ◌∷◌, length, Option, Some, None, Result, Ok, Err, option_map, option_and_then}
+use Rattle.std.specs.Prelude.{ℕ, ℤ, ◌+◌, Bool, true, false, List, [], ◌∷◌, Option, Some, None, Result, Ok, Err, option_map, option_and_then}
 use Rattle.std.specs.List.{filter_map, position}
 use Rattle.wkt_text.specs.declared.geometry.Geometry.{Geometry}
 use Rattle.wkt_text.specs.declared.geometry.Geometry.TheVariants as geometry
@@ -45,11 +45,11 @@ abbrev pub field_of : ValueFrom → Option Text
 field_of (Burn value) = None
 field_of (Field name) = Some name
 
--- points or lines, unless the geometry is EMPTY
 abbrev pub has_some : {A : Type 0} → List A → Bool
 has_some [] = false
 has_some (x ∷ xs) = true
 
+-- points or lines, unless the geometry is EMPTY
 abbrev pub is_points_or_lines : Geometry → Bool
 is_points_or_lines (geometry.Point path) = has_some path
 is_points_or_lines (geometry.LineString path) = has_some path

@@ -1,6 +1,6 @@
 -- What gdal_rasterize writes. Source: its manual, by the burned grid; the extent of a layer, the order of refusals and what
 -- is burned outside are this project's own.
-use Rattle.std.specs.Prelude.{◌≡◌, ℕ, ℤ, ◌&&◌, pos, int_lt, Bool, if◌then◌else◌, List, [], ◌∷◌, map, Option, Some, None, option_map, Result, Ok, Err}
+use Rattle.std.specs.Prelude.{ℕ, ℤ, ◌&&◌, pos, int_lt, Bool, if◌then◌else◌, List, [], ◌∷◌, map, Option, Some, None, option_map, Result, Ok, Err}
 use Rattle.std.specs.List.{range_with_len}
 use Rattle.std.specs.Option.{option_or}
 use Rattle.rv_outside.specs.Files.{Files}

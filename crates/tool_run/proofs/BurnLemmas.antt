@@ -1,7 +1,7 @@
 -- The frame that features are burned over, and what gdal_rasterize leaves.
-use Rattle.std.proofs.Common.{◌≡◌, ◌∙◌, ◌+◌, ◌<◌, ◌≤◌, inl, inr, ℕ, ℤ, Bool, true, false, List, [], ◌∷◌, Option, Some, None, Result, Ok, Err, IfSome, length, get_or, zero, suc, refl, sym, ap, subst, arith}
-use Rattle.std.specs.Prelude.{nat_lt, option_map, slice_get}
-use Rattle.std.specs.List.{position, position_or_len}
+use Rattle.std.proofs.Common.{◌≡◌, ◌∙◌, ◌+◌, ◌<◌, ◌≤◌, inl, inr, ℕ, Bool, true, false, List, Option, Some, None, Result, Ok, Err, IfSome, length, get_or, refl, sym, ap, arith}
+use Rattle.std.specs.Prelude.{nat_lt, slice_get}
+use Rattle.std.specs.List.{position_or_len}
 use Rattle.std.specs.Option.{option_or}
 use Rattle.std.proofs.lemmas.Bool.{cases_lt}
 use Rattle.std.proofs.lemmas.Bool.Decides.{nat_tests}
@@ -20,9 +20,9 @@ use Rattle.tool_outcome.specs.LayerExtent.{layer_extent}
 use Rattle.tool_outcome.specs.Outcome.{CanBeDone, Does, IsAnswerFor, LeavesPart}
 use Rattle.tool_outcome.specs.Rasterize.{frame_in, of_layer, over_frame, rasterize_text}
 use Rattle.tool_outcome.specs.declared.fault.Fault.{Fault}
-use Rattle.tool_outcome.specs.declared.fault.Fault.TheVariants.{Frame as FrameOf, NoExtent, NotPolygon}
+use Rattle.tool_outcome.specs.declared.fault.Fault.TheVariants.{NoExtent, NotPolygon}
 use Rattle.tool_run.specs.Inner.Steps.{IsPartWritten}
-use Rattle.tool_run.specs.Inner.Strokes.{IsOver, text_over}
+use Rattle.tool_run.specs.Inner.Strokes.{IsOver}
 use Rattle.tool_run.proofs.LayerLemmas.{some_at}
 
 -- the first record of points or lines

@@ -1,5 +1,5 @@
 -- The text of cells by their units.
-use Rattle.std.proofs.Common.{◌≡◌, ◌∙◌, ◌++◌, ◌<◌, ℕ, ℤ, List, [], ◌∷◌, Option, Some, None, length, get_or, map, refl, sym, ap, pos, arith}
+use Rattle.std.proofs.Common.{◌≡◌, ◌∙◌, ◌++◌, ◌<◌, ℕ, ℤ, List, [], ◌∷◌, Option, Some, None, length, get_or, map, refl, ap, pos, arith}
 use Rattle.std.specs.Prelude.{option_map, slice_get, unwrap_or}
 use Rattle.std.specs.List.{flat_map, join_with_byte, range_with_len}
 use Rattle.std.proofs.lemmas.List.{get_or-map, length-map}
@@ -7,10 +7,9 @@ use Rattle.std.proofs.lemmas.List.FromFn.{fill_by_all}
 use Rattle.std.proofs.lemmas.Option.{get_or_from_slice_get, unwrap_or-slice_get}
 use Rattle.cell_base.specs.Clamped.{clamped}
 use Rattle.cell_base.specs.declared.kind.CellKind.{CellKind}
-use Rattle.cell_base.specs.Raster.{Place, Raster, value_at}
+use Rattle.cell_base.specs.Raster.{Place, Raster}
 use Rattle.geo_transform.specs.declared.frame.Frame.{Frame}
 use Rattle.asc_grid.specs.Canonical.{canonical_text, header_text, row_text, spelled}
-use Rattle.asc_grid.specs.declared.grid.Asc.{Asc}
 use Rattle.burn_scanline.specs.Burned.{HoldsValues}
 use Rattle.tool_outcome.specs.Rasterize.{held, least_of, raster_by}
 use Rattle.tool_run.specs.Inner.Strokes.{IsKind}

@@ -1,8 +1,8 @@
 -- The features that are read of a layer.
-use Rattle.std.proofs.Common.{◌≡◌, ◌≢◌, ◌++◌, ◌∙◌, List, [], ◌∷◌, Result, Ok, Err, Option, Some, None, IfSome, refl, sym, ap, subst}
+use Rattle.std.proofs.Common.{◌≡◌, ◌≢◌, ◌++◌, ◌∙◌, List, [], ◌∷◌, Result, Ok, Err, Option, Some, None, IfSome, refl, ap}
 use Rattle.rv_outside.specs.Files.{Files}
 use Rattle.ogr_csv.specs.Layer.{layer_of}
-use Rattle.ogr_csv.specs.Next.{Answers, IsFaultOf, Opens}
+use Rattle.ogr_csv.specs.Next.{Answers, IsFaultOf}
 use Rattle.ogr_csv.specs.declared.fault.LayerFault.{LayerFault}
 use Rattle.ogr_csv.specs.declared.fault.LayerFault.TheVariants as layer
 use Rattle.ogr_csv.specs.declared.feature.Feature.{Feature}
@@ -25,15 +25,6 @@ all_given (f ∷ features) = ap (in_front f) (all_given features)
 pub given_more : (features : List Feature) (f : Feature) (rest : Answers) → giving (features ++ f ∷ []) ++ rest ≡ giving features ++ Ok f ∷ rest
 given_more [] f rest = refl
 given_more (g ∷ features) f rest = ap (λ (answers : Answers). Ok g ∷ answers) (given_more features f rest)
-
--- the header is refused
-pub open_refused : (read : Result Answers LayerFault) (fault : LayerFault) → Opens read (Err fault) → fault ≢ layer.NoMemory → features_in read ≡ Err fault
-open_refused read layer.NoHeader opens other = ap features_in opens
-open_refused read layer.NoGeometryColumn opens other = ap features_in opens
-open_refused read layer.NoField opens other = ap features_in opens
-open_refused read (layer.BadGeometry at kind byte) opens other = absurd opens
-open_refused read (layer.BadAttribute at) opens other = absurd opens
-open_refused read layer.NoMemory opens other = absurd (other refl)
 
 first_refused : (features : List Feature) (fault : LayerFault) (left : Answers) → IsFaultOf left fault → fault ≢ layer.NoMemory → features_of (giving features ++ left) ≡ Err fault
 first_refused features layer.NoHeader left is other = absurd is

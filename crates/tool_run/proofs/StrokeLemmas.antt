@@ -1,12 +1,12 @@
 -- Features that are burned one after the other.
-use Rattle.std.proofs.Common.{◌≡◌, ◌∙◌, ◌++◌, ◌<◌, ℕ, zero, suc, ℤ, ◌+◌, ◌*◌, ◌≤◌, Bool, true, false, List, [], ◌∷◌, Option, Some, None, replicate, map, take, append-nil, refl, sym, ap, subst}
+use Rattle.std.proofs.Common.{◌≡◌, ◌∙◌, ◌++◌, ℕ, zero, suc, ℤ, ◌+◌, ◌*◌, Bool, true, false, List, [], ◌∷◌, Option, Some, None, replicate, map, take, append-nil, refl, sym, ap, subst}
 use Rattle.std.specs.Prelude.{◌||◌, if◌then◌else◌, option_map, slice_get, unwrap_or}
 use Rattle.std.specs.List.{cons_option, filter_map, list_any}
 use Rattle.std.proofs.lemmas.List.{length-replicate}
 use Rattle.std.proofs.lemmas.Option.{none-some, same_Some}
 use Rattle.std.proofs.lemmas.List.Elements.{All-replicate, filter_map-append}
 use Rattle.cell_base.specs.Clamped.{clamped}
-use Rattle.cell_base.specs.Raster.{Place, Raster, most_cells, raster_of, value_at}
+use Rattle.cell_base.specs.Raster.{Place, Raster, raster_of}
 use Rattle.cell_base.proofs.PlaceLemmas.{rows_hold}
 use Rattle.cell_base.proofs.RasterLemmas.{raster_from_cells}
 use Rattle.geo_transform.specs.Frame.{IsFrame}
@@ -22,7 +22,7 @@ use Rattle.burn_scanline.proofs.OrderLemmas.{in_order}
 use Rattle.tool_words.specs.declared.job.RasterizeJob.{RasterizeJob}
 use Rattle.tool_words.specs.declared.job.ValueFrom.{ValueFrom}
 use Rattle.tool_outcome.specs.Features.{as_burned, burned_features}
-use Rattle.tool_outcome.specs.Rasterize.{burned_value, first_value, held, how_of, least_of, most_of, outside_of}
+use Rattle.tool_outcome.specs.Rasterize.{first_value, how_of, least_of, outside_of}
 use Rattle.tool_run.specs.Inner.Strokes.{AddsFeature, AreStrokesOf, IsKind, outside_start, shape_as, stroke_of, strokes_over}
 use Rattle.tool_run.specs.declared.burned_cells.Strokes.{Strokes}
 use Rattle.tool_run.proofs.LayerLemmas.{take_more}

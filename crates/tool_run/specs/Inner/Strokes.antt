@@ -1,5 +1,5 @@
 -- How features are burned one after the other.
-use Rattle.std.specs.Prelude.{◌≡◌, ℕ, ℤ, Bool, ◌++◌, List, [], ◌∷◌, Option, Some, None, option_map, unwrap_or, Ok, Err, codes, decimal}
+use Rattle.std.specs.Prelude.{◌≡◌, ℕ, ℤ, ◌++◌, List, [], ◌∷◌, Option, Some, None, option_map, unwrap_or, Ok, Err, codes, decimal}
 use Rattle.std.specs.declared.result.Result.{Result}
 use Rattle.std.specs.List.{filter_map}
 use Rattle.cell_base.specs.Clamped.{clamped}

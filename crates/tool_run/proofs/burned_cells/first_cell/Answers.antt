@@ -1,6 +1,5 @@
 use Rattle.wkt_text.specs.declared.geometry.Geometry.{Geometry}
-use Rattle.std.proofs.Common.{ℤ, to_z, of_z, w64, ◌≡◌, ◌∙◌, Some, take, sym, ap, arith}
-use Rattle.std.specs.Prelude.{slice_get}
+use Rattle.std.proofs.Common.{ℤ, to_z, of_z, w64, ◌≡◌, ◌∙◌, Some, sym, ap, arith}
 use Rattle.std.proofs.lemmas.List.{take_all}
 use Rattle.std.proofs.lemmas.Grind.{common_steps}
 use Rattle.cell_base.specs.Clamped.{clamped}

@@ -1,4 +1,4 @@
-use Rattle.std.proofs.Common.{◌≡◌, to_z, of_z, w64, sym, arith}
+use Rattle.std.proofs.Common.{◌≡◌, to_z, of_z, w64, arith}
 use Rattle.std.proofs.lemmas.Grind.{common_steps}
 use Rattle.tool_run.proofs.StrokeLemmas.{back_strokes, own_strokes}
 use Rattle.tool_run.proofs.burned_cells.strokes_of.Goals as goal

@@ -1,4 +1,4 @@
-use Rattle.std.proofs.Common.{◌∙◌, [], None, Some, List, sym, ap, subst, refl, arith}
+use Rattle.std.proofs.Common.{◌∙◌, [], None, Some, sym, ap, subst, refl, arith}
 use Rattle.std.proofs.lemmas.List.{take_all}
 use Rattle.tool_outcome.specs.LayerExtent.{layer_points, points_if}
 use Rattle.ogr_csv.specs.declared.feature.Feature.{Feature}

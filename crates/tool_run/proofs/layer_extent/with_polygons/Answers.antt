@@ -1,9 +1,8 @@
-use Rattle.std.proofs.Common.{◌∙◌, ◌≤◌, Some, List, length, sym, ap, subst, arith}
+use Rattle.std.proofs.Common.{◌∙◌, ◌≤◌, Some, length, sym, ap, subst, arith}
 use Rattle.std.specs.Prelude.{slice_get}
 use Rattle.std.proofs.lemmas.Grind.{common_steps}
 use Rattle.std.proofs.lemmas.List.{take_all}
 use Rattle.std.specs.List.{flat_map}
-use Rattle.wkt_text.specs.declared.geometry.Pt.{Pt}
 use Rattle.tool_outcome.specs.LayerExtent.{points_in}
 use Rattle.tool_run.specs.Inner.Extent.{HoldsPoints}
 use Rattle.tool_run.proofs.LayerLemmas.{some_at}

@@ -1,5 +1,4 @@
 use Rattle.std.proofs.Common.{take}
-use Rattle.std.specs.List.{flat_map}
 use Rattle.tool_outcome.specs.LayerExtent.{points_in}
 use Rattle.tool_run.specs.Inner.Extent.{HoldsPoints}
 use Rattle.tool_run.proofs.layer_extent.with_rings.Given as goal

@@ -1,5 +1,5 @@
 use Rattle.std.proofs.Common.{arith}
-use Rattle.tool_run.proofs.LayerFileLemmas.{all_read, next_refused, open_refused}
+use Rattle.tool_run.proofs.LayerFileLemmas.{all_read, next_refused}
 use Rattle.tool_run.proofs.layer_file.features_of.Goals as goal
 
 pub returns-in_err-feature : goal.returns-in_err-feature
