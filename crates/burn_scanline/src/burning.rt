@@ -17,8 +17,8 @@ pub enum How {
     Add,
 }
 
-// What a cell of this value holds once another is burned on it.
-fn burned_on<T: Cell>(old: T, value: T, how: How) -> T
+/// What a cell of this value holds once another is burned on it.
+pub fn burned_on<T: Cell>(old: T, value: T, how: How) -> T
     ensures { T.units_of result ≡ burned T.least T.greatest how (T.units_of old) (T.units_of value) }
 {
     match how {

@@ -8,7 +8,7 @@ mod edge_rows;
 mod laws;
 mod run_list;
 
-pub use burning::{How, burn, burn_runs};
+pub use burning::{How, burn, burn_runs, burned_on};
 pub use centre::{CentreScan, centre_runs, cover_centre};
 pub use edge_rows::{EdgeRows, EdgeWalk, SpanRule, SpannedEdge};
 pub use laws::{burns_in_order, burns_outside};

@@ -3,3 +3,4 @@ pub mod SieveLemmas
 pub mod PolygonizeLemmas
 pub mod ContourLemmas
 pub mod OneOutcomeLemmas
+mod RasterizeExamples

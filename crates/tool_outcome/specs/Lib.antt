@@ -6,4 +6,7 @@ pub mod Answer
 pub mod Sieve
 pub mod Polygonize
 pub mod Contour
+pub mod Features
+pub mod LayerExtent
+pub mod Rasterize
 pub mod Outcome

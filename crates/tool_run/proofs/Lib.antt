@@ -9,3 +9,8 @@ pub mod RangeLemmas
 pub mod IntervalLemmas
 pub mod DrawingLemmas
 pub mod ContourLemmas
+pub mod LayerFileLemmas
+pub mod ExtentLemmas
+pub mod StrokeLemmas
+pub mod CellTextLemmas
+pub mod BurnLemmas

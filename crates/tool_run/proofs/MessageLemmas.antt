@@ -12,8 +12,11 @@ use Rattle.rv_outside.proofs.WrittenLemmas.{adds_nothing, adds_then}
 use Rattle.asc_grid.specs.declared.fault.GridKind.{GridKind}
 use Rattle.asc_grid.specs.declared.fault.GridKind.TheVariants.{UnknownKeyword, RepeatedKeyword, MissingKeyword, BadNumber, OutOfRange, TooLarge, BadCell, TooFewCells, TooManyCells}
 use Rattle.asc_grid.specs.declared.fault.GridFault.TheVariants as grid
-use Rattle.tool_outcome.specs.Message.{grid_text, line_of_grid}
+use Rattle.geo_transform.specs.declared.fault.FrameFault.{FrameFault}
+use Rattle.geo_transform.specs.declared.fault.FrameFault.TheVariants as frame
+use Rattle.tool_outcome.specs.Message.{frame_text, grid_text, line_of_frame, line_of_grid}
 use Rattle.tool_run.specs.Inner.Steps.{grid_number, grid_words}
+use Rattle.tool_run.specs.Inner.Strokes.{frame_number, frame_words}
 use Rattle.tool_run.specs.Line.{SaysLine}
 
 -- all of the first part, and some of the second
@@ -96,6 +99,19 @@ offence_parts name line kind =
     let words : (codes ": " ++ grid_words kind) ++ grid_number kind ≡ codes ": " ++ grid_text kind =
     append_assoc (codes ": ") (grid_words kind) (grid_number kind) ∙ ap (λ t. codes ": " ++ t) (sym (text_parts kind)) in
     ap (λ t. t ++ codes "\n") (ap (λ t. first ++ t) words ∙ sym (append_assoc first (codes ": ") (grid_text kind)))
+
+-- what is wrong with a frame, in its two parts
+frame_parts : (fault : FrameFault) → frame_text fault ≡ frame_words fault ++ frame_number fault
+frame_parts frame.BadSize = refl
+frame_parts (frame.TooLarge cells) = refl
+frame_parts frame.BadCell = refl
+frame_parts frame.NotSquare = refl
+frame_parts frame.OutOfRange = refl
+
+-- the line of a frame's fault, in the parts that are handed over
+pub frame_line_parts : (fault : FrameFault) → (codes "frame: " ++ frame_words fault ++ frame_number fault) ++ codes "\n" ≡ line_of_frame fault
+frame_line_parts fault =
+    ap (λ t. t ++ codes "\n") (append_assoc (codes "frame: ") (frame_words fault) (frame_number fault) ∙ ap (λ t. codes "frame: " ++ t) (sym (frame_parts fault)))
 
 -- the same text in other parts
 pub says_same : (text line : List ℕ) (r : Result (Unit {0}) Trouble) (old new : SinkState) → text ≡ line → Says text r old new → Says line r old new

@@ -1,9 +1,14 @@
 -- What a run tells of the answer of its tool.
 use Rattle.std.proofs.Common.{◌≡◌, ◌≢◌, ◌∙◌, ap, ℕ, List, Option, Some, None, Result, Ok, Err, IfSome, OnErr, refl, sym, subst}
 use Rattle.rv_outside.specs.Files.{Files, with_file}
+use Rattle.rv_outside.specs.Sink.{SinkState}
 use Rattle.asc_grid.specs.declared.fault.GridKind.{GridKind}
 use Rattle.asc_grid.specs.declared.fault.GridKind.TheVariants.{UnknownKeyword, RepeatedKeyword, MissingKeyword, BadNumber, OutOfRange, TooLarge, BadCell, TooFewCells, TooManyCells}
 use Rattle.asc_grid.specs.declared.fault.GridFault.TheVariants as grid
+use Rattle.geo_transform.specs.declared.fault.FrameFault.{FrameFault}
+use Rattle.geo_transform.specs.declared.fault.FrameFault.TheVariants as frame
+use Rattle.ogr_csv.specs.declared.fault.LayerFault.{LayerFault}
+use Rattle.ogr_csv.specs.declared.fault.LayerFault.TheVariants as layer
 use Rattle.tool_words.specs.Words.{Text}
 use Rattle.tool_words.specs.Job.{IsAnswer, job_of}
 use Rattle.tool_words.specs.declared.fault.WordFault.{WordFault}
@@ -15,7 +20,9 @@ use Rattle.tool_outcome.specs.Status.{IsDecided, status_of, status_of_words}
 use Rattle.tool_outcome.specs.declared.fault.Fault.{Fault}
 use Rattle.tool_outcome.specs.declared.fault.Fault.TheVariants as fault
 use Rattle.tool_outcome.specs.declared.fault.Role.{Role}
+use Rattle.tool_outcome.specs.declared.status.Status.{Status}
 use Rattle.tool_outcome.specs.declared.status.Status.TheVariants.{Done}
+use Rattle.tool_run.specs.Line.{SaysLine}
 
 -- the answer of a job, as its line
 abbrev pub line_by : Job → Result (Unit {0}) Fault → List ℕ
@@ -32,6 +39,21 @@ grid_line job role line BadCell = (fault.Grid role (grid.At BadCell line), refl,
 grid_line job role line TooFewCells = (fault.Grid role (grid.At TooFewCells line), refl, refl)
 grid_line job role line TooManyCells = (fault.Grid role (grid.At TooManyCells line), refl, refl)
 
+layer_line : (job : Job) (offence : LayerFault) → IsLine (Ok job) (status_of {A = Unit {0}} (Err (fault.Layer offence))) (line_of_job job (fault.Layer offence))
+layer_line job layer.NoHeader = (fault.Layer layer.NoHeader, refl, refl)
+layer_line job layer.NoGeometryColumn = (fault.Layer layer.NoGeometryColumn, refl, refl)
+layer_line job layer.NoField = (fault.Layer layer.NoField, refl, refl)
+layer_line job (layer.BadGeometry at kind byte) = (fault.Layer (layer.BadGeometry at kind byte), refl, refl)
+layer_line job (layer.BadAttribute at) = (fault.Layer (layer.BadAttribute at), refl, refl)
+layer_line job layer.NoMemory = (fault.Layer layer.NoMemory, refl, refl)
+
+frame_line : (job : Job) (offence : FrameFault) → IsLine (Ok job) (status_of {A = Unit {0}} (Err (fault.Frame offence))) (line_of_job job (fault.Frame offence))
+frame_line job frame.BadSize = (fault.Frame frame.BadSize, refl, refl)
+frame_line job (frame.TooLarge cells) = (fault.Frame (frame.TooLarge cells), refl, refl)
+frame_line job frame.BadCell = (fault.Frame frame.BadCell, refl, refl)
+frame_line job frame.NotSquare = (fault.Frame frame.NotSquare, refl, refl)
+frame_line job frame.OutOfRange = (fault.Frame frame.OutOfRange, refl, refl)
+
 pub line_is : (job : Job) (answer : Result (Unit {0}) Fault) → IsLine (Ok job) (status_of answer) (line_by job answer)
 line_is job (Ok u) = refl
 line_is job (Err (fault.Missing role)) = (fault.Missing role, refl, refl)
@@ -39,9 +61,36 @@ line_is job (Err (fault.ReadFault role)) = (fault.ReadFault role, refl, refl)
 line_is job (Err (fault.Grid role (grid.At kind line))) = grid_line job role line kind
 line_is job (Err (fault.Grid role grid.NoMemory)) = (fault.Grid role grid.NoMemory, refl, refl)
 line_is job (Err (fault.TooManyLevels count)) = (fault.TooManyLevels count, refl, refl)
+line_is job (Err (fault.Layer offence)) = layer_line job offence
+line_is job (Err (fault.NotPolygon number)) = (fault.NotPolygon number, refl, refl)
+line_is job (Err fault.NoExtent) = (fault.NoExtent, refl, refl)
+line_is job (Err (fault.Frame offence)) = frame_line job offence
 line_is job (Err fault.WriteFault) = (fault.WriteFault, refl, refl)
 line_is job (Err fault.NotBuilt) = (fault.NotBuilt, refl, refl)
 line_is job (Err fault.NoMemory) = (fault.NoMemory, refl, refl)
+
+-- refused words, or want of memory in place of a job
+
+refused_line : (read : Result Job WordFault) (refusal : WordFault) → IsAnswer read (Err refusal) → IsLine read (status_of_words refusal) (line_of_words refusal)
+refused_line (Ok job) word.NoMemory is = (fault.NoMemory, refl, refl)
+refused_line (Err other) word.NoMemory is = absurd (cc is)
+refused_line read (word.At kind place) is = subst (λ r. IsLine r (status_of_words (word.At kind place)) (line_of_words (word.At kind place))) (sym is) (refl, refl)
+
+refused_meets : (old : Option Files) (words : List Text) (refusal : WordFault) → IsAnswer (job_of words) (Err refusal) → IsDecided (status_of_words refusal) → IfSome old (λ files. Meets words files (status_of_words refusal) (line_of_words refusal) old)
+refused_meets None words refusal is decided = tt
+refused_meets (Some files) words word.NoMemory is decided = absurd decided
+refused_meets (Some files) words (word.At kind place) is decided = (files, refl, subst (λ r. IsOutcomeOf r files (end_of_words (word.At kind place) files)) (sym is) refl)
+
+-- the outcome of words without a job
+pub refuses : (old : Option Files) (words : List Text) (refusal : WordFault) (status : Status) (before after : SinkState) → IsAnswer (job_of words) (Err refusal) → status ≡ status_of_words refusal → SaysLine (line_of_words refusal) before after
+    → (line : List ℕ) × IsLine (job_of words) status line × SaysLine line before after × (IsDecided status → IfSome old (λ files. Meets words files status line old))
+refuses old words refusal status before after is ended says = (
+  line_of_words refusal,
+  subst (λ s. IsLine (job_of words) s (line_of_words refusal)) (sym ended) (refused_line (job_of words) refusal is),
+  says,
+  λ decided.
+      subst (λ s. IfSome old (λ files. Meets words files s (line_of_words refusal) old)) (sym ended) (refused_meets old words refusal is (subst IsDecided ended decided)),
+)
 
 meets_job : (words : List Text) (job : Job) (files : Files) (answer : Result (Unit {0}) Fault) (now : Option Files) → job_of words ≡ Ok job → Does job files answer now → Meets words files (status_of answer) (line_by job answer) now
 meets_job words job files (Ok u) now is does = (with_file (dest_of_job job) does.0 files, does.2, subst (λ j. IsOutcomeOf j files (end_of_job job files (Ok does.0))) (sym is) (Ok does.0, does.1, refl))
@@ -55,18 +104,3 @@ pub leaves_part : (old now : Option Files) (words : List Text) (job : Job) (answ
 leaves_part old now words job (Ok u) is other part = absurd (other refl)
 leaves_part None now words job (Err fault) is other part = tt
 leaves_part (Some files) now words job (Err fault) is other part = subst (λ j. WordsLeavePart j files now) (sym is) part
-
--- words without a job, or without memory for one
-
-refused_words : (words : List Text) (fault : WordFault) (old : Option Files) → job_of words ≡ Err fault → IfSome old (λ files. Meets words files (status_of_words fault) (line_of_words fault) old)
-refused_words words fault None is = tt
-refused_words words fault (Some files) is = (files, refl, subst (λ j. IsOutcomeOf j files (end_of_words fault files)) (sym is) refl)
-
-pub refused : (words : List Text) (fault : WordFault) (expected : Result Job WordFault) (old : Option Files) → job_of words ≡ expected → IsAnswer expected (Err fault)
-    → IsLine expected (status_of_words fault) (line_of_words fault) × (IsDecided (status_of_words fault) → IfSome old (λ files. Meets words files (status_of_words fault) (line_of_words fault) old))
-refused words (word.At kind place) (Ok job) old is answer = absurd (cc answer)
-refused words (word.At kind place) (Err fault) old is answer =
-    let same : fault ≡ word.At kind place = cc answer in
-    (subst (λ f. IsLine (Err f) (status_of_words (word.At kind place)) (line_of_words (word.At kind place))) (sym same) (refl, refl), λ decided. refused_words words (word.At kind place) old (is ∙ ap Err same))
-refused words word.NoMemory (Ok job) old is answer = ((fault.NoMemory, refl, refl), λ decided. absurd decided)
-refused words word.NoMemory (Err fault) old is answer = absurd (cc answer)

@@ -6,6 +6,7 @@ ghost use Rattle.tool_outcome.specs.Status.{IsDecided, status_of};
 ghost use Rattle.tool_run.specs.Causes.{HasCauses};
 ghost use Rattle.tool_run.specs.Inner.Ranges.{HasInterval};
 
+use crate::burning::rasterize;
 use crate::contours::contour;
 use crate::polygons::polygonize;
 use crate::sieve::sieve_tool;
@@ -55,7 +56,7 @@ pub(crate) fn do_job<F: Folder>(alloc: Global, job: &Job, folder: &mut F) -> Res
     match job {
         Job::Sieve(job) => sieve_tool(alloc, job, folder),
         Job::Polygonize(job) => polygonize(alloc, job, folder),
+        Job::Rasterize(job) => rasterize(alloc, job, folder),
         Job::Contour(job) => contour(alloc, job, folder),
-        _ => Err(Fault::NotBuilt),
     }
 }

@@ -5,16 +5,22 @@
 //! defines from the words and the files. Each tool has a file; `jobs` is the table of tools.
 #![tactic(auto)]
 
+mod burned_cells;
+mod burning;
 mod contours;
 mod drawing;
 mod grid_file;
 mod jobs;
+mod layer_extent;
+mod layer_file;
+mod layer_message;
 mod message;
 mod pieces;
 mod polygons;
 mod program;
 mod sieve;
 
+pub use burning::rasterize;
 pub use contours::contour;
 pub use polygons::polygonize;
 pub use program::run;

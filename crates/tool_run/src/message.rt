@@ -12,8 +12,8 @@ use itoa::Buffer;
 use rv_outside::{Sink, Trouble, say};
 use tool_words::WordKind;
 
-// Hands three texts to a sink, one after the other, so that the line takes no memory.
-fn say_three<S: Sink>(sink: &mut S, a: &[u8], b: &[u8], c: &[u8]) -> Result<(), Trouble>
+/// Hands three texts to a sink, one after the other, so that the line takes no memory.
+pub(crate) fn say_three<S: Sink>(sink: &mut S, a: &[u8], b: &[u8], c: &[u8]) -> Result<(), Trouble>
     ensures { Says (a.now ++ b.now ++ c.now) result (S.state sink.old) (S.state sink.new) }
 {
     say(sink, a)?;

@@ -5,6 +5,7 @@ ghost use Rattle.rv_outside.specs.Folder.{OnlyWrites};
 ghost use Rattle.tool_run.specs.Inner.Steps.{IsPartWritten, IsWriteFault};
 
 use asc_grid::GridText;
+use cell_base::Cell;
 use rv_outside::{Folder, append_all};
 use std::alloc::{AllocError, Global};
 use tool_outcome::Fault;
@@ -25,14 +26,14 @@ pub(crate) trait Pieces {
         ensures more { IfOk result (λ more. MatchBool more (steps self.new < steps self.old) (left self.old ≡ [])) };
 }
 
-impl<'a> Pieces for GridText<'a, i64> {
+impl<'a, T: Cell> Pieces for GridText<'a, T> {
     ghost use Rattle.std.specs.Prelude.{length};
     ghost use Rattle.asc_grid.specs.Canonical.{spelled};
     ghost use Rattle.asc_grid.specs.Text.{text_left};
 
-    ghost left = { text_left (spelled (λ n. n) 0) };
+    ghost left = { text_left (spelled T.units_of T.PLACES) };
 
-    ghost steps = { λ text. length (text_left (spelled (λ n. n) 0) text) };
+    ghost steps = { λ text. length (text_left (spelled T.units_of T.PLACES) text) };
 
     fn next(&mut self, piece: &mut Vec<u8>) -> Result<bool, AllocError> {
         self.next(piece)

@@ -8,6 +8,7 @@ ghost use Rattle.tool_run.specs.Causes.{HasCauses};
 ghost use Rattle.tool_run.specs.Line.{SaysLine};
 
 use crate::jobs::{dest_name, do_job, source_name};
+use crate::layer_message::{say_frame, say_layer, say_record};
 use crate::message::{say_line, say_number, say_offence, say_word};
 use asc_grid::{GridFault, GridKind};
 use rv_outside::{Folder, Sink};
@@ -78,6 +79,16 @@ fn report<E: Sink>(source: &str, dest: &str, answer: Result<(), Fault>, err: &mu
             say_number(err, "levels: too many: ", count);
             Status::TooLarge
         }
+        Err(Fault::Layer(offence)) => say_layer(err, source, offence),
+        Err(Fault::NotPolygon(record)) => {
+            say_record(err, source, record, "not a polygon");
+            Status::BadInput
+        }
+        Err(Fault::NoExtent) => {
+            say_line(err, source, ": no extent\n");
+            Status::BadInput
+        }
+        Err(Fault::Frame(offence)) => say_frame(err, offence),
         Err(Fault::WriteFault) => {
             say_line(err, dest, ": write failed\n");
             Status::WriteFault

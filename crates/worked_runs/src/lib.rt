@@ -14,6 +14,8 @@ mod grids;
 #[cfg(test)]
 mod polygonizing;
 #[cfg(test)]
+mod rasterizing;
+#[cfg(test)]
 mod running;
 #[cfg(test)]
 mod sieving;

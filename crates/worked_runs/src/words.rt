@@ -103,6 +103,7 @@ fn jobs_that_are_not_built_and_files_that_are_missing(rt: HostRuntime) -> Result
                 "gdal_rasterize",
                 "-burn",
                 "1",
+                "-at",
                 "-ts",
                 "1",
                 "1",

@@ -1,20 +1,12 @@
-use Rattle.std.proofs.Common.{◌∙◌, refl, sym, subst}
-use Rattle.tool_words.specs.Job.{job_of}
-use Rattle.tool_outcome.specs.Message.{IsLine, line_of_words}
+use Rattle.std.proofs.Common.{◌∙◌, sym, subst}
+use Rattle.tool_outcome.specs.Message.{IsLine}
 use Rattle.tool_outcome.specs.Status.{status_of}
 use Rattle.tool_run.proofs.IntervalLemmas.{has_interval}
-use Rattle.tool_run.proofs.RunLemmas.{leaves_part, line_by, line_is, meets, refused}
+use Rattle.tool_run.proofs.RunLemmas.{leaves_part, line_by, line_is, meets, refuses}
 use Rattle.tool_run.proofs.program.run.Goals as goal
 
 pub do_job-answer-requires : goal.do_job-answer-requires
 do_job-answer-requires g c = record { interval = has_interval c.args.words.now c.in-Ok.job c.in-Ok.ensures }
-
-pub returns-in-Err-clause-outcome : goal.returns-in-Err-clause-outcome
-returns-in-Err-clause-outcome g c =
-    let words = c.args.words.now in
-    let fault = c.in-Err.fault in
-    let told = refused words fault (job_of words) (g.F.Folder.state c.args.folder.now).files refl c.in-Err.ensures in
-    rw c.refuse.ensures.status (line_of_words fault, told.0, c.refuse.ensures.line, told.1)
 
 pub returns-clause-outcome : goal.returns-clause-outcome
 returns-clause-outcome g c =
@@ -31,3 +23,6 @@ returns-clause-outcome g c =
 pub returns-clause-part : goal.returns-clause-part
 returns-clause-part g c = λ not_done.
     leaves_part _ _ c.args.words.now c.in-Ok.job c.do_job-answer.result c.in-Ok.ensures (λ done. not_done (c.report.ensures.status ∙ done)) c.do_job-answer.ensures.part
+
+pub returns-in-Err-clause-outcome : goal.returns-in-Err-clause-outcome
+returns-in-Err-clause-outcome g c = refuses _ c.args.words.now c.in-Err.fault c.refuse.result _ _ (c.in-Err.ensures {u = tt}) c.refuse.ensures.status c.refuse.ensures.line
