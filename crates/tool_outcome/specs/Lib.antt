@@ -5,4 +5,7 @@ pub mod Message
 pub mod Answer
 pub mod Sieve
 pub mod Polygonize
+pub mod Features
+pub mod LayerExtent
+pub mod Rasterize
 pub mod Outcome

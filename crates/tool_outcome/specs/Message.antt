@@ -5,6 +5,12 @@ use Rattle.asc_grid.specs.declared.fault.GridKind.{GridKind}
 use Rattle.asc_grid.specs.declared.fault.GridKind.TheVariants.{UnknownKeyword, RepeatedKeyword, MissingKeyword, BadNumber, OutOfRange, TooLarge, BadCell, TooFewCells, TooManyCells}
 use Rattle.asc_grid.specs.declared.fault.GridFault.{GridFault}
 use Rattle.asc_grid.specs.declared.fault.GridFault.TheVariants as grid
+use Rattle.geo_transform.specs.declared.fault.FrameFault.{FrameFault}
+use Rattle.geo_transform.specs.declared.fault.FrameFault.TheVariants as frame
+use Rattle.wkt_text.specs.declared.fault.WktKind.{WktKind}
+use Rattle.wkt_text.specs.declared.fault.WktKind.TheVariants as wkt
+use Rattle.ogr_csv.specs.declared.fault.LayerFault.{LayerFault}
+use Rattle.ogr_csv.specs.declared.fault.LayerFault.TheVariants as layer
 use Rattle.tool_words.specs.Words.{Text}
 use Rattle.tool_words.specs.declared.fault.WordKind.{WordKind}
 use Rattle.tool_words.specs.declared.fault.WordKind.TheVariants as word
@@ -52,6 +58,42 @@ abbrev pub line_of_grid : Text → GridFault → List ℕ
 line_of_grid name (grid.At kind line) = name ++ codes ": line " ++ decimal line ++ codes ": " ++ grid_text kind ++ codes "\n"
 line_of_grid name grid.NoMemory = codes "out of memory\n"
 
+-- what is wrong with a geometry
+abbrev pub wkt_text : WktKind → List ℕ
+wkt_text wkt.UnknownKind = codes "unknown kind"
+wkt_text wkt.Dimension = codes "bad dimension"
+wkt_text wkt.Syntax = codes "bad syntax"
+wkt_text wkt.BadNumber = codes "bad number"
+wkt_text wkt.OutOfRange = codes "out of range"
+wkt_text wkt.ShortRing = codes "short ring"
+wkt_text wkt.OpenRing = codes "open ring"
+
+-- the line of what is wrong with a record
+abbrev pub line_of_record : Text → ℕ → List ℕ → List ℕ
+line_of_record name number text = name ++ codes ": record " ++ decimal number ++ codes ": " ++ text ++ codes "\n"
+
+-- the line of a refused layer
+abbrev pub line_of_layer : Text → LayerFault → List ℕ
+line_of_layer name layer.NoHeader = name ++ codes ": no header\n"
+line_of_layer name layer.NoGeometryColumn = name ++ codes ": no geometry column\n"
+line_of_layer name layer.NoField = name ++ codes ": no such field\n"
+line_of_layer name (layer.BadGeometry at kind byte) =
+    line_of_record name at (wkt_text kind ++ codes " at byte " ++ decimal byte)
+line_of_layer name (layer.BadAttribute at) = line_of_record name at (codes "bad attribute")
+line_of_layer name layer.NoMemory = codes "out of memory\n"
+
+-- what is wrong with a frame
+abbrev pub frame_text : FrameFault → List ℕ
+frame_text frame.BadSize = codes "bad size"
+frame_text (frame.TooLarge cells) = codes "too large: " ++ decimal cells
+frame_text frame.BadCell = codes "bad cell"
+frame_text frame.NotSquare = codes "not square"
+frame_text frame.OutOfRange = codes "out of range"
+
+-- the line of a frame's fault
+abbrev pub line_of_frame : FrameFault → List ℕ
+line_of_frame offence = codes "frame: " ++ frame_text offence ++ codes "\n"
+
 -- the names of a job's source and destination
 
 abbrev pub source_of_job : Job → Text
@@ -71,6 +113,10 @@ abbrev pub line_of_fault : Text → Text → Fault → List ℕ
 line_of_fault source dest (fault.Missing role) = source ++ codes ": no such file\n"
 line_of_fault source dest (fault.ReadFault role) = source ++ codes ": read failed\n"
 line_of_fault source dest (fault.Grid role offence) = line_of_grid source offence
+line_of_fault source dest (fault.Layer offence) = line_of_layer source offence
+line_of_fault source dest (fault.NotPolygon number) = line_of_record source number (codes "not a polygon")
+line_of_fault source dest fault.NoExtent = source ++ codes ": no extent\n"
+line_of_fault source dest (fault.Frame offence) = line_of_frame offence
 line_of_fault source dest fault.WriteFault = dest ++ codes ": write failed\n"
 line_of_fault source dest fault.NotBuilt = codes "not built\n"
 line_of_fault source dest fault.NoMemory = codes "out of memory\n"

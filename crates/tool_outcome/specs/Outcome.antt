@@ -1,5 +1,5 @@
 -- What a run is to do. Source: this project's own.
-use Rattle.std.specs.Prelude.{◌≡◌, ◌⊎◌, ℕ, Bool, true, false, List, [], Option, Some, Ok, Err, take}
+use Rattle.std.specs.Prelude.{◌≡◌, ◌⊎◌, ℕ, Bool, true, false, not, List, [], Option, Some, Ok, Err, take}
 use Rattle.std.specs.declared.result.Result.{Result}
 use Rattle.rv_outside.specs.Files.{Files, with_file}
 use Rattle.tool_words.specs.Words.{Text}
@@ -10,6 +10,7 @@ use Rattle.tool_words.specs.declared.job.Job.TheVariants.{Sieve, Polygonize, Ras
 use Rattle.tool_outcome.specs.Answer.{Answer}
 use Rattle.tool_outcome.specs.Message.{dest_of_job, line_of_job, line_of_words}
 use Rattle.tool_outcome.specs.Polygonize.{IsPolygonizeAnswer}
+use Rattle.tool_outcome.specs.Rasterize.{rasterize_answer}
 use Rattle.tool_outcome.specs.Sieve.{IsSieveAnswer}
 use Rattle.tool_outcome.specs.Status.{status_of_fault, status_of_words}
 use Rattle.tool_outcome.specs.declared.fault.Fault.{Fault}
@@ -28,13 +29,14 @@ pub record Outcome : Type 0 where
 abbrev pub is_built : Job → Bool
 is_built (Sieve job) = true
 is_built (Polygonize job) = true
-is_built (Rasterize job) = false
+is_built (Rasterize job) = not job.touched
 is_built (Contour job) = false
 
 -- the answer for a job
 abbrev pub IsAnswerFor : Job → Files → Answer → Type 0
 IsAnswerFor (Sieve job) files answer = IsSieveAnswer job files answer
 IsAnswerFor (Polygonize job) files answer = IsPolygonizeAnswer job files answer
+IsAnswerFor (Rasterize job) files answer = answer ≡ rasterize_answer job files
 IsAnswerFor other files answer = answer ≡ Err NotBuilt
 
 -- the end of a run whose words are refused: all files stay

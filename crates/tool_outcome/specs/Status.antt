@@ -5,6 +5,10 @@ use Rattle.asc_grid.specs.declared.fault.GridKind.{GridKind}
 use Rattle.asc_grid.specs.declared.fault.GridKind.TheVariants as kind
 use Rattle.asc_grid.specs.declared.fault.GridFault.{GridFault}
 use Rattle.asc_grid.specs.declared.fault.GridFault.TheVariants as grid
+use Rattle.geo_transform.specs.declared.fault.FrameFault.{FrameFault}
+use Rattle.geo_transform.specs.declared.fault.FrameFault.TheVariants as frame
+use Rattle.ogr_csv.specs.declared.fault.LayerFault.{LayerFault}
+use Rattle.ogr_csv.specs.declared.fault.LayerFault.TheVariants as layer
 use Rattle.tool_words.specs.declared.fault.WordFault.{WordFault}
 use Rattle.tool_words.specs.declared.fault.WordFault.TheVariants as words
 use Rattle.tool_outcome.specs.declared.status.Status.{Status}
@@ -38,11 +42,25 @@ abbrev pub status_of_grid : GridFault → Status
 status_of_grid (grid.At kind line) = status_of_kind kind
 status_of_grid grid.NoMemory = NoMemory
 
+-- the status of a refused layer
+abbrev pub status_of_layer : LayerFault → Status
+status_of_layer layer.NoMemory = NoMemory
+status_of_layer other = BadInput
+
+-- the status of a frame's fault
+abbrev pub status_of_frame : FrameFault → Status
+status_of_frame (frame.TooLarge cells) = TooLarge
+status_of_frame other = BadInput
+
 -- the status of a fault
 abbrev pub status_of_fault : Fault → Status
 status_of_fault (fault.Missing role) = Missing
 status_of_fault (fault.ReadFault role) = ReadFault
 status_of_fault (fault.Grid role offence) = status_of_grid offence
+status_of_fault (fault.Layer offence) = status_of_layer offence
+status_of_fault (fault.NotPolygon number) = BadInput
+status_of_fault fault.NoExtent = BadInput
+status_of_fault (fault.Frame offence) = status_of_frame offence
 status_of_fault fault.WriteFault = WriteFault
 status_of_fault fault.NotBuilt = NotBuilt
 status_of_fault fault.NoMemory = NoMemory

@@ -1,5 +1,7 @@
 // Why a tool did not do its job.
 use asc_grid::GridFault;
+use geo_transform::FrameFault;
+use ogr_csv::LayerFault;
 use rv_outside::{FetchFault, Trouble};
 use std::alloc::AllocError;
 use thiserror::Error;
@@ -23,6 +25,18 @@ pub enum Fault {
     /// The text has no grid.
     #[error("no grid")]
     Grid(Role, GridFault),
+    /// The text or one of its records is refused as a layer.
+    #[error("no layer")]
+    Layer(LayerFault),
+    /// The record of this number is of points or lines.
+    #[error("not a polygon")]
+    NotPolygon(u64),
+    /// No extent was asked for, and the layer has no point.
+    #[error("no extent")]
+    NoExtent,
+    /// The extent and the size make no frame.
+    #[error("no frame")]
+    Frame(FrameFault),
     /// The destination could not be made, or a write to it failed.
     #[error("write failed")]
     WriteFault,
@@ -72,6 +86,21 @@ impl From<GridFault> for Fault {
         match grid {
             GridFault::At { .. } => Fault::Grid(Role::Source, grid),
             GridFault::NoMemory => Fault::NoMemory,
+        }
+    }
+}
+
+// And the only text that is read as a layer.
+impl From<LayerFault> for Fault {
+    ghost use Rattle.std.specs.Prelude.{◌≡◌};
+    ghost use Rattle.tool_outcome.specs.Fault.{of_layer};
+
+    ghost from_gives = { λ layer fault. fault ≡ of_layer layer };
+
+    fn from(layer: LayerFault) -> Fault {
+        match layer {
+            LayerFault::NoMemory => Fault::NoMemory,
+            _ => Fault::Layer(layer),
         }
     }
 }
