@@ -15,7 +15,8 @@ use Rattle.geo_transform.proofs.CornerLemmas.{between}
 use Rattle.wkt_text.specs.declared.geometry.Pt.{Pt}
 use Rattle.burn_scanline.specs.Centre.{counts, counts_up, doubled, is_between, is_left}
 use Rattle.burn_scanline.specs.EdgeTable.{IsSpanned, SpannedEdge}
-use Rattle.burn_scanline.specs.Inner.Crossing.{AreRowsAbove, IsColumnAt, IsLeastSteps, IsTakenFrom, IsUprightAt, is_beside}
+use Rattle.burn_scanline.specs.Steps.{IsLeastSteps}
+use Rattle.burn_scanline.specs.Inner.Crossing.{AreRowsAbove, IsColumnAt, IsTakenFrom, IsUprightAt, is_beside}
 use Rattle.burn_scanline.specs.declared.crossing.ActiveEdge.{ActiveEdge}
 use Rattle.burn_scanline.specs.declared.edge_rows.SpanRule.TheVariants.{Centre}
 use Rattle.burn_scanline.proofs.RunLemmas.{or_none}
