@@ -138,11 +138,11 @@ times_suc : (a : ℤ) (d : ℕ) → a *ℤ pos (suc d) ≡ a *ℤ pos d +ℤ a
 times_suc (pos a) d = omega (arith, ints)
 times_suc (negsuc a) d = omega (arith, ints)
 
-distributes : (a b : ℤ) (d : ℕ) → (a +ℤ b) *ℤ pos d ≡ a *ℤ pos d +ℤ b *ℤ pos d
+pub distributes : (a b : ℤ) (d : ℕ) → (a +ℤ b) *ℤ pos d ≡ a *ℤ pos d +ℤ b *ℤ pos d
 distributes a b zero = omega (arith, ints, *ℤ-zero (a +ℤ b), *ℤ-zero a, *ℤ-zero b)
 distributes a b (suc d) = omega (arith, ints, times_suc (a +ℤ b) d, times_suc a d, times_suc b d, distributes a b d)
 
-times_sum : (a : ℤ) (d e : ℕ) → a *ℤ pos (d + e) ≡ a *ℤ pos d +ℤ a *ℤ pos e
+pub times_sum : (a : ℤ) (d e : ℕ) → a *ℤ pos (d + e) ≡ a *ℤ pos d +ℤ a *ℤ pos e
 times_sum a zero e = omega (arith, ints, *ℤ-zero a)
 times_sum a (suc d) e = omega (arith, ints, times_suc a (d + e), times_suc a d, times_sum a d e)
 
