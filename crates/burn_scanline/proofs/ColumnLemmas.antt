@@ -15,7 +15,8 @@ use Rattle.geo_transform.proofs.CornerLemmas.{between}
 use Rattle.wkt_text.specs.declared.geometry.Pt.{Pt}
 use Rattle.burn_scanline.specs.Centre.{counts, counts_up, doubled, is_between, is_left}
 use Rattle.burn_scanline.specs.EdgeTable.{IsSpanned, SpannedEdge}
-use Rattle.burn_scanline.specs.Inner.Crossing.{AreRowsAbove, IsColumnAt, IsLeastSteps, IsTakenFrom, IsUprightAt, is_beside}
+use Rattle.burn_scanline.specs.Steps.{IsLeastSteps}
+use Rattle.burn_scanline.specs.Inner.Crossing.{AreRowsAbove, IsColumnAt, IsTakenFrom, IsUprightAt, is_beside}
 use Rattle.burn_scanline.specs.declared.crossing.ActiveEdge.{ActiveEdge}
 use Rattle.burn_scanline.specs.declared.edge_rows.SpanRule.TheVariants.{Centre}
 use Rattle.burn_scanline.proofs.RunLemmas.{or_none}
@@ -137,11 +138,11 @@ times_suc : (a : ℤ) (d : ℕ) → a *ℤ pos (suc d) ≡ a *ℤ pos d +ℤ a
 times_suc (pos a) d = omega (arith, ints)
 times_suc (negsuc a) d = omega (arith, ints)
 
-distributes : (a b : ℤ) (d : ℕ) → (a +ℤ b) *ℤ pos d ≡ a *ℤ pos d +ℤ b *ℤ pos d
+pub distributes : (a b : ℤ) (d : ℕ) → (a +ℤ b) *ℤ pos d ≡ a *ℤ pos d +ℤ b *ℤ pos d
 distributes a b zero = omega (arith, ints, *ℤ-zero (a +ℤ b), *ℤ-zero a, *ℤ-zero b)
 distributes a b (suc d) = omega (arith, ints, times_suc (a +ℤ b) d, times_suc a d, times_suc b d, distributes a b d)
 
-times_sum : (a : ℤ) (d e : ℕ) → a *ℤ pos (d + e) ≡ a *ℤ pos d +ℤ a *ℤ pos e
+pub times_sum : (a : ℤ) (d e : ℕ) → a *ℤ pos (d + e) ≡ a *ℤ pos d +ℤ a *ℤ pos e
 times_sum a zero e = omega (arith, ints, *ℤ-zero a)
 times_sum a (suc d) e = omega (arith, ints, times_suc a (d + e), times_suc a d, times_sum a d e)
 

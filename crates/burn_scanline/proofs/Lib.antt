@@ -1,6 +1,7 @@
 pub mod RunLemmas
 pub mod BurnLemmas
 pub mod ColumnLemmas
+pub mod StripLemmas
 pub mod LinkLemmas
 pub mod RowLemmas
 pub mod ScanLemmas

@@ -1,8 +1,10 @@
 -- Edges gathered from rings, and linked by the rows that they begin in.
 use Rattle.std.proofs.Common.{◌≡◌, ℕ, ℤ, zero, suc, ◌+◌, ◌-◌, ◌<◌, ◌≤◌, ◌⊎◌, inl, inr, Bool, true, false, not, cond, List, [], ◌∷◌, ◌++◌, Option, Some, None, length, length-set, append_assoc, take, set, get_or, min, max, refl, ap, sym, ◌∙◌, subst, pos, ◌*ℤ◌, arith}
 use Rattle.std.specs.Prelude.{◌&&◌, ◌||◌, nat_lt, nat_le, int_le, int_lt, All, map, option_map, slice_get, unwrap_or, if◌then◌else◌}
+use Rattle.std.specs.Int.{int_max, int_min}
+use Rattle.std.specs.Ordering.{int_eq}
 use Rattle.std.specs.List.{filter, flat_map, list_any, range_with_len}
-use Rattle.std.proofs.lemmas.Bool.{cases_eq, eq-eqb, ne_eqb, or_right, or_left, or_from}
+use Rattle.std.proofs.lemmas.Bool.{and_parts, cases_eq, eq-eqb, ne_eqb, or_right, or_left, or_from}
 use Rattle.std.proofs.lemmas.Bool.Decides.{nat_tests}
 use Rattle.std.proofs.lemmas.Int.{ints}
 use Rattle.std.proofs.lemmas.List.{append-nil, map-append, take_more}
@@ -11,16 +13,16 @@ use Rattle.std.proofs.lemmas.List.Elements.{All-append, All-cons, All-nil, filte
 use Rattle.std.proofs.lemmas.Option.{get_or_from_slice_get, slice_get-get_or, slice_get-map, slice_get_within}
 use Rattle.std.proofs.Math.Seq.{map-set_same}
 use Rattle.cell_base.proofs.PlaceLemmas.{element_at}
-use Rattle.geo_transform.specs.Corner.{centre2_of}
+use Rattle.geo_transform.specs.Corner.{centre2_of, corner_of}
 use Rattle.geo_transform.specs.declared.frame.Frame.{Frame}
 use Rattle.wkt_text.specs.Geometry.{last_from}
 use Rattle.wkt_text.specs.declared.geometry.Pt.{Pt}
 use Rattle.burn_scanline.specs.Ring.{Edge, edges_of, edges_through}
-use Rattle.burn_scanline.specs.EdgeTable.{IsSpanned, SpannedEdge, edge_of, first_row_of, has_row, is_row_of, starting_below}
-use Rattle.burn_scanline.specs.Inner.Crossing.{AreRowsAbove}
+use Rattle.burn_scanline.specs.EdgeTable.{IsSpanned, SpannedEdge, edge_of, first_row_of, has_length, has_row, is_row_of, meets_strip, starting_below}
+use Rattle.burn_scanline.specs.Inner.Crossing.{AreRowsAbove, AreRowsAt}
 use Rattle.burn_scanline.specs.Inner.Linking.{AreLinkedTo, Gathers, HaveRowsBelow, IsHead, IsLinkedTo, LinksOne, edges_in, from_link}
 use Rattle.burn_scanline.specs.declared.edge_rows.SpanRule.{SpanRule}
-use Rattle.burn_scanline.specs.declared.edge_rows.SpanRule.TheVariants.{Centre}
+use Rattle.burn_scanline.specs.declared.edge_rows.SpanRule.TheVariants.{Centre, Strip}
 use Rattle.burn_scanline.specs.declared.edge_rows.LinkedEdge.{LinkedEdge}
 use Rattle.burn_scanline.specs.declared.edge_rows.RowTable.{RowTable}
 use Rattle.burn_scanline.proofs.RunLemmas.{at_set}
@@ -151,34 +153,108 @@ any_some test a (suc n) row from to is = elim (cases_eq a row) [
   | inr other ↦ or_right (test a) (list_any test (range_with_len (a + 1) n)) (any_some test (a + 1) n row (omega (arith, from, other)) (omega (arith, to)) is)
 ]
 
-ends_none : (row k : ℕ) → ((nat_lt row k && not (nat_lt row k)) || (nat_lt row k && not (nat_lt row k))) ≡ false
-ends_none row k = grind (arith, nat_tests)
+-- the rows of an edge of some length, by those of its ends
 
-ends_span : (row ka kb first last : ℕ) → (ka ≡ kb → ⊥) → first ≡ min ka kb → last ≡ max ka kb - 1 → ((nat_lt row ka && not (nat_lt row kb)) || (nat_lt row kb && not (nat_lt row ka))) ≡ (nat_le first row && nat_le row last)
-ends_span row ka kb first last other is_first is_last = grind (arith, nat_tests)
+centre_rows : (row ka kb first end : ℕ) → first ≡ min ka kb → end ≡ max ka kb
+    → ((nat_lt row ka && not (nat_lt row kb)) || (nat_lt row kb && not (nat_lt row ka))) ≡ (nat_le first row && nat_lt row end)
+centre_rows row ka kb first end is_first is_end = grind (arith, nat_tests)
 
-pub gathers_level : (f : Frame) (a b : Pt) (ka kb : ℕ) (items : List LinkedEdge) → AreRowsAbove f a.y ka → AreRowsAbove f b.y kb → ka ≡ kb → Gathers Centre f ((a, b) ∷ []) items items
-gathers_level f a b ka kb items above_a above_b same =
-    let none : has_row Centre f (a, b) ≡ false = any_none (is_row_of Centre f (a, b)) 0 f.nrows (λ row from to. row_of_ends f a b ka kb row above_a above_b (omega (arith, to)) ∙ ap (λ (k : ℕ). (nat_lt row k && not (nat_lt row kb)) || (nat_lt row kb && not (nat_lt row k))) same ∙ ends_none row kb) in
+least_test : (a b z : ℤ) → int_lt (int_min a b) z ≡ (int_lt a z || int_lt b z)
+least_test a b z = grind (arith, ints)
+
+most_test : (a b z : ℤ) → int_lt z (int_max a b) ≡ (int_lt z a || int_lt z b)
+most_test a b z = grind (arith, ints)
+
+strip_rows : (row fa ea fb eb first end : ℕ) → first ≡ min fa fb → end ≡ max ea eb
+    → ((nat_lt row ea || nat_lt row eb) && (nat_le fa row || nat_le fb row)) ≡ (nat_le first row && nat_lt row end)
+strip_rows row fa ea fb eb first end is_first is_end = grind (arith, nat_tests)
+
+-- the two ends are one point
+abbrev pub is_one_point : Pt → Pt → Bool
+is_one_point a b = int_eq a.x b.x && int_eq a.y b.y
+
+one_point : (a b : Pt) → is_one_point a b ≡ true → a ≡ b
+one_point a b is =
+    let parts = and_parts (int_eq a.x b.x) (int_eq a.y b.y) is in
+    let point : ℤ → ℤ → Pt = λ u v. record { x = u; y = v } in
+    ap (λ (u : ℤ). point u a.y) (same_units a.x b.x parts.0) ∙ ap (point b.x) (same_units a.y b.y parts.1)
+  where
+    same_units : (m n : ℤ) → int_eq m n ≡ true → m ≡ n
+    same_units m n same = grind (arith, ints, same)
+
+rows_of_ends : (rule : SpanRule) (f : Frame) (a b : Pt) (fa ea fb eb first end row : ℕ) → AreRowsAt rule f a.y fa ea → AreRowsAt rule f b.y fb eb
+    → is_one_point a b ≡ false → first ≡ min fa fb → end ≡ max ea eb → row < f.nrows → is_row_of rule f (a, b) row ≡ (nat_le first row && nat_lt row end)
+rows_of_ends Centre f a b fa ea fb eb first end row at_a at_b other is_first is_end in_rows =
+    row_of_ends f a b fa fb row at_a.0 at_b.0 in_rows ∙ centre_rows row fa fb first end is_first (is_end ∙ ap (λ (n : ℕ). max n eb) at_a.1 ∙ ap (max fa) at_b.1)
+rows_of_ends Strip f a b fa ea fb eb first end row at_a at_b other is_first is_end in_rows =
+    let top : ℤ = (corner_of f row 0).1 in
+    let bottom : ℤ = (corner_of f (row + 1) 0).1 in
+    ap (λ (x : Bool). not x && meets_strip f (a, b) row) other
+    ∙ ap (λ (x : Bool). x && int_lt bottom (int_max a.y b.y)) (least_test a.y b.y top)
+    ∙ ap (λ (x : Bool). (int_lt a.y top || int_lt b.y top) && x) (most_test a.y b.y bottom)
+    ∙ ap (λ (x : Bool). (x || int_lt b.y top) && (int_lt bottom a.y || int_lt bottom b.y)) (at_a.below row in_rows)
+    ∙ ap (λ (x : Bool). (nat_lt row ea || x) && (int_lt bottom a.y || int_lt bottom b.y)) (at_b.below row in_rows)
+    ∙ ap (λ (x : Bool). (nat_lt row ea || nat_lt row eb) && (x || int_lt bottom b.y)) (at_a.above row in_rows)
+    ∙ ap (λ (x : Bool). (nat_lt row ea || nat_lt row eb) && (nat_le fa row || x)) (at_b.above row in_rows)
+    ∙ strip_rows row fa ea fb eb first end is_first is_end
+
+end_within : (rule : SpanRule) (f : Frame) (y : ℤ) (first end : ℕ) → AreRowsAt rule f y first end → end ≤ f.nrows
+end_within Centre f y first end at = omega (arith, at.0.within, at.1)
+end_within Strip f y first end at = at.within
+
+-- an edge of no length has no row
+point_row : (rule : SpanRule) (f : Frame) (a : Pt) (row : ℕ) → is_row_of rule f (a, a) row ≡ false
+point_row Centre f a row = never (pos 2 *ℤ a.y) (centre2_of f row 0).1
+  where
+    never : (y h : ℤ) → ((int_le y h && int_lt h y) || (int_le y h && int_lt h y)) ≡ false
+    never y h = grind (arith, ints)
+point_row Strip f a row = rw (same_units a.x, same_units a.y) refl
+  where
+    same_units : (n : ℤ) → int_eq n n ≡ true
+    same_units n = grind (arith, ints)
+
+gathers_nothing : (rule : SpanRule) (f : Frame) (e : Edge) (items : List LinkedEdge) → ((row : ℕ) → row < f.nrows → is_row_of rule f e row ≡ false)
+    → Gathers rule f (e ∷ []) items items
+gathers_nothing rule f e items no_row =
+    let none : has_row rule f e ≡ false = any_none (is_row_of rule f e) 0 f.nrows (λ row from to. no_row row (omega (arith, to))) in
     record {
-      edges = sym (ap (λ (x : Bool). map edge_of (edges_in items) ++ cond x ((a, b) ∷ []) []) none ∙ append-nil (map edge_of (edges_in items)));
+      edges = sym (ap (λ (x : Bool). map edge_of (edges_in items) ++ cond x (e ∷ []) []) none ∙ append-nil (map edge_of (edges_in items)));
       spans = λ all. all;
     }
 
-pub gathers_edge : (f : Frame) (a b : Pt) (ka kb : ℕ) (items : List LinkedEdge) (item : LinkedEdge) → AreRowsAbove f a.y ka → AreRowsAbove f b.y kb → (ka ≡ kb → ⊥) → item.edge.start ≡ a → item.edge.end ≡ b → item.edge.first ≡ min ka kb → item.edge.last ≡ max ka kb - 1 → Gathers Centre f ((a, b) ∷ []) items (items ++ item ∷ [])
-gathers_edge f a b ka kb items item above_a above_b other is_start is_end is_first is_last =
-    let within : item.edge.last < f.nrows = omega (arith, above_a.within, above_b.within, is_last, other) in
-    let rows : (row : ℕ) → row < f.nrows → is_row_of Centre f (a, b) row ≡ (nat_le item.edge.first row && nat_le row item.edge.last) = λ row in_rows. row_of_ends f a b ka kb row above_a above_b in_rows ∙ ends_span row ka kb item.edge.first item.edge.last other is_first is_last in
-    let some : item.edge.first ≤ item.edge.last = omega (arith, is_first, is_last, other) in
-    let has : has_row Centre f (a, b) ≡ true = any_some (is_row_of Centre f (a, b)) 0 f.nrows item.edge.first (omega arith) (omega (arith, some, within)) (rows item.edge.first (omega (arith, some, within)) ∙ grind (arith, nat_tests, some)) in
+pub gathers_point : (rule : SpanRule) (f : Frame) (a b : Pt) (items : List LinkedEdge) → is_one_point a b ≡ true → Gathers rule f ((a, b) ∷ []) items items
+gathers_point rule f a b items same =
+    subst (λ (q : Pt). Gathers rule f ((a, q) ∷ []) items items) (one_point a b same) (gathers_nothing rule f (a, a) items (λ row in_rows. point_row rule f a row))
+
+none_between : (first end row : ℕ) → end ≤ first → (nat_le first row && nat_lt row end) ≡ false
+none_between first end row less = grind (arith, nat_tests, less)
+
+pub gathers_rowless : (rule : SpanRule) (f : Frame) (a b : Pt) (fa ea fb eb first end : ℕ) (items : List LinkedEdge) → AreRowsAt rule f a.y fa ea → AreRowsAt rule f b.y fb eb
+    → is_one_point a b ≡ false → first ≡ min fa fb → end ≡ max ea eb → end ≤ first → Gathers rule f ((a, b) ∷ []) items items
+gathers_rowless rule f a b fa ea fb eb first end items at_a at_b other is_first is_end less =
+    gathers_nothing rule f (a, b) items (λ row in_rows. rows_of_ends rule f a b fa ea fb eb first end row at_a at_b other is_first is_end in_rows ∙ none_between first end row less)
+
+up_to_last : (first end last row : ℕ) → last ≡ end - 1 → first < end → (nat_le first row && nat_lt row end) ≡ (nat_le first row && nat_le row last)
+up_to_last first end last row is some = grind (arith, nat_tests, is, some)
+
+pub gathers_edge : (rule : SpanRule) (f : Frame) (a b : Pt) (fa ea fb eb first end : ℕ) (items : List LinkedEdge) (item : LinkedEdge) → AreRowsAt rule f a.y fa ea → AreRowsAt rule f b.y fb eb
+    → is_one_point a b ≡ false → first ≡ min fa fb → end ≡ max ea eb → first < end → item.edge.start ≡ a → item.edge.end ≡ b → item.edge.first ≡ first → item.edge.last ≡ end - 1
+    → Gathers rule f ((a, b) ∷ []) items (items ++ item ∷ [])
+gathers_edge rule f a b fa ea fb eb first end items item at_a at_b other is_first is_end more is_start is_stop from to =
+    let within : item.edge.last < f.nrows = omega (arith, end_within rule f a.y fa ea at_a, end_within rule f b.y fb eb at_b, is_end, to, more) in
+    let rows : (row : ℕ) → row < f.nrows → is_row_of rule f (a, b) row ≡ (nat_le item.edge.first row && nat_le row item.edge.last) = λ row in_rows.
+    rows_of_ends rule f a b fa ea fb eb first end row at_a at_b other is_first is_end in_rows
+    ∙ up_to_last first end item.edge.last row to more ∙ ap (λ (n : ℕ). nat_le n row && nat_le row item.edge.last) (sym from) in
+    let some : item.edge.first ≤ item.edge.last = omega (arith, from, to, more) in
+    let has : has_row rule f (a, b) ≡ true = any_some (is_row_of rule f (a, b)) 0 f.nrows item.edge.first (omega arith) (omega (arith, some, within)) (rows item.edge.first (omega (arith, some, within)) ∙ grind (arith, nat_tests, some)) in
     let ends : edge_of item.edge ≡ (a, b) = cc in
     record {
       edges = ap (map edge_of) (map-append (λ (i : LinkedEdge). i.edge) items (item ∷ [])) ∙ map-append edge_of (edges_in items) (item.edge ∷ []) ∙ ap (λ (e : Edge). map edge_of (edges_in items) ++ e ∷ []) ends ∙ ap (λ (x : Bool). map edge_of (edges_in items) ++ cond x ((a, b) ∷ []) []) (sym has);
-      spans = λ all. subst (All (IsSpanned Centre f)) (sym (map-append (λ (i : LinkedEdge). i.edge) items (item ∷ []))) (All-append (IsSpanned Centre f) (edges_in items) (item.edge ∷ []) all (All-cons (IsSpanned Centre f) item.edge [] (record {
+      spans = λ all. subst (All (IsSpanned rule f)) (sym (map-append (λ (i : LinkedEdge). i.edge) items (item ∷ []))) (All-append (IsSpanned rule f) (edges_in items) (item.edge ∷ []) all (All-cons (IsSpanned rule f) item.edge [] (record {
         some = some;
         within = within;
-        rows = λ row in_rows. ap (λ (e : Edge). is_row_of Centre f e row) ends ∙ rows row in_rows;
-      }) (All-nil (IsSpanned Centre f))));
+        rows = λ row in_rows. ap (λ (e : Edge). is_row_of rule f e row) ends ∙ rows row in_rows;
+      }) (All-nil (IsSpanned rule f))));
     }
 
 -- the edges of a ring, one after another
@@ -202,11 +278,11 @@ ring_edges (p ∷ path) d some =
     ap (λ (n : ℕ). edges_through (get_or (p ∷ path) n d) (p ∷ path)) end ∙ ap (λ (q : Pt). edges_through q (p ∷ path)) (last_get p d path)
 
 -- one point of a ring more
-pub ring_step : (f : Frame) (ring : List Pt) (at : ℕ) (p before x : Pt) (old mid new : List LinkedEdge) → at < length ring → slice_get ring at ≡ Some x → before ≡ last_from p (take at ring) → Gathers Centre f (edges_through p (take at ring)) old mid → Gathers Centre f ((before, x) ∷ []) mid new → Gathers Centre f (edges_through p (take (at + 1) ring)) old new
-ring_step f ring at p before x old mid new within found is one two =
+pub ring_step : (rule : SpanRule) (f : Frame) (ring : List Pt) (at : ℕ) (p before x : Pt) (old mid new : List LinkedEdge) → at < length ring → slice_get ring at ≡ Some x → before ≡ last_from p (take at ring) → Gathers rule f (edges_through p (take at ring)) old mid → Gathers rule f ((before, x) ∷ []) mid new → Gathers rule f (edges_through p (take (at + 1) ring)) old new
+ring_step rule f ring at p before x old mid new within found is one two =
     let more : take (at + 1) ring ≡ take at ring ++ x ∷ [] = take_more ring at x within ∙ ap (λ (y : Pt). take at ring ++ y ∷ []) (get_or_from_slice_get ring at x x found) in
     let edges : edges_through p (take at ring) ++ (before, x) ∷ [] ≡ edges_through p (take (at + 1) ring) = ap (λ (q : Pt). edges_through p (take at ring) ++ (q, x) ∷ []) is ∙ sym (ap (edges_through p) more ∙ through_push p x (take at ring)) in
-    subst (λ (es : List Edge). Gathers Centre f es old new) edges (gathers_more Centre f (edges_through p (take at ring)) ((before, x) ∷ []) old mid new one two)
+    subst (λ (es : List Edge). Gathers rule f es old new) edges (gathers_more rule f (edges_through p (take at ring)) ((before, x) ∷ []) old mid new one two)
 
 pub ring_last : (ring : List Pt) (at : ℕ) (p x : Pt) → at < length ring → slice_get ring at ≡ Some x → x ≡ last_from p (take (at + 1) ring)
 ring_last ring at p x within found =
@@ -214,19 +290,19 @@ ring_last ring at p x within found =
     sym (ap (last_from p) more ∙ last_push p x (take at ring))
 
 -- one list more
-pub flat_step : {A : Type 0} (f : Frame) (edges : A → List Edge) (xs : List A) (at : ℕ) (x : A) (old mid new : List LinkedEdge) → at < length xs → slice_get xs at ≡ Some x → Gathers Centre f (flat_map edges (take at xs)) old mid → Gathers Centre f (edges x) mid new → Gathers Centre f (flat_map edges (take (at + 1) xs)) old new
-flat_step {A} f edges xs at x old mid new within found one two =
+pub flat_step : {A : Type 0} (rule : SpanRule) (f : Frame) (edges : A → List Edge) (xs : List A) (at : ℕ) (x : A) (old mid new : List LinkedEdge) → at < length xs → slice_get xs at ≡ Some x → Gathers rule f (flat_map edges (take at xs)) old mid → Gathers rule f (edges x) mid new → Gathers rule f (flat_map edges (take (at + 1) xs)) old new
+flat_step {A} rule f edges xs at x old mid new within found one two =
     let more : take (at + 1) xs ≡ take at xs ++ x ∷ [] = take_more xs at x within ∙ ap (λ (y : A). take at xs ++ y ∷ []) (get_or_from_slice_get xs at x x found) in
     let joined : flat_map edges (take at xs) ++ edges x ≡ flat_map edges (take (at + 1) xs) = sym (ap (flat_map edges) more ∙ flat_map-append edges (take at xs) (x ∷ []) ∙ ap (λ (es : List Edge). flat_map edges (take at xs) ++ es) (append-nil (edges x))) in
-    subst (λ (es : List Edge). Gathers Centre f es old new) joined (gathers_more Centre f (flat_map edges (take at xs)) (edges x) old mid new one two)
+    subst (λ (es : List Edge). Gathers rule f es old new) joined (gathers_more rule f (flat_map edges (take at xs)) (edges x) old mid new one two)
 
 -- the same where the lists are those of lists
-pub flat_flat_step : {A B : Type 0} (f : Frame) (edges : B → List Edge) (parts : A → List B) (xs : List A) (at : ℕ) (x : A) (old mid new : List LinkedEdge) → at < length xs → slice_get xs at ≡ Some x → Gathers Centre f (flat_map edges (flat_map parts (take at xs))) old mid → Gathers Centre f (flat_map edges (parts x)) mid new → Gathers Centre f (flat_map edges (flat_map parts (take (at + 1) xs))) old new
-flat_flat_step {A} {B} f edges parts xs at x old mid new within found one two =
+pub flat_flat_step : {A B : Type 0} (rule : SpanRule) (f : Frame) (edges : B → List Edge) (parts : A → List B) (xs : List A) (at : ℕ) (x : A) (old mid new : List LinkedEdge) → at < length xs → slice_get xs at ≡ Some x → Gathers rule f (flat_map edges (flat_map parts (take at xs))) old mid → Gathers rule f (flat_map edges (parts x)) mid new → Gathers rule f (flat_map edges (flat_map parts (take (at + 1) xs))) old new
+flat_flat_step {A} {B} rule f edges parts xs at x old mid new within found one two =
     let more : take (at + 1) xs ≡ take at xs ++ x ∷ [] = take_more xs at x within ∙ ap (λ (y : A). take at xs ++ y ∷ []) (get_or_from_slice_get xs at x x found) in
     let inner : flat_map parts (take (at + 1) xs) ≡ flat_map parts (take at xs) ++ parts x = ap (flat_map parts) more ∙ flat_map-append parts (take at xs) (x ∷ []) ∙ ap (λ (es : List B). flat_map parts (take at xs) ++ es) (append-nil (parts x)) in
     let joined : flat_map edges (flat_map parts (take at xs)) ++ flat_map edges (parts x) ≡ flat_map edges (flat_map parts (take (at + 1) xs)) = sym (ap (flat_map edges) inner ∙ flat_map-append edges (flat_map parts (take at xs)) (parts x)) in
-    subst (λ (es : List Edge). Gathers Centre f es old new) joined (gathers_more Centre f (flat_map edges (flat_map parts (take at xs))) (flat_map edges (parts x)) old mid new one two)
+    subst (λ (es : List Edge). Gathers rule f es old new) joined (gathers_more rule f (flat_map edges (flat_map parts (take at xs))) (flat_map edges (parts x)) old mid new one two)
 
 pub read_at : {A : Type 0} (xs : List A) (i : ℕ) (x : A) → i < length xs → x ≡ get_or xs i x → slice_get xs i ≡ Some x
 read_at {A} xs i x within is = slice_get-get_or xs i x within ∙ ap (λ (y : A). Some y) (sym is)
@@ -259,8 +335,8 @@ pub read_of : {A : Type 0} (xs ys : List A) (i : ℕ) (x : A) → xs ≡ ys → 
 read_of {A} xs ys i x same within is = ap (λ (zs : List A). slice_get zs i) (sym same) ∙ read_at xs i x within is
 
 -- the whole ring
-pub ring_done : (f : Frame) (points ring : List Pt) (at : ℕ) (p q d : Pt) (old new : List LinkedEdge) → points ≡ ring → 0 < length points → length points ≤ at → p ≡ q → q ≡ get_or points (length points - 1) d → Gathers Centre f (edges_through p (take at ring)) old new → Gathers Centre f (edges_of ring) old new
-ring_done f points ring at p q d old new same some end is_p is_q gathered =
+pub ring_done : (rule : SpanRule) (f : Frame) (points ring : List Pt) (at : ℕ) (p q d : Pt) (old new : List LinkedEdge) → points ≡ ring → 0 < length points → length points ≤ at → p ≡ q → q ≡ get_or points (length points - 1) d → Gathers rule f (edges_through p (take at ring)) old new → Gathers rule f (edges_of ring) old new
+ring_done rule f points ring at p q d old new same some end is_p is_q gathered =
     let whole : take at points ≡ points = grind (arith, common_steps) in
     let edges : edges_through p (take at ring) ≡ edges_of ring = ap (λ (r : List Pt). edges_through p (take at r)) (sym same) ∙ ap (edges_through p) whole ∙ ap (λ (r : Pt). edges_through r points) (is_p ∙ is_q) ∙ ring_edges points d some ∙ ap edges_of same in
-    subst (λ (es : List Edge). Gathers Centre f es old new) edges gathered
+    subst (λ (es : List Edge). Gathers rule f es old new) edges gathered

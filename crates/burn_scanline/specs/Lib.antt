@@ -1,3 +1,4 @@
+pub mod Steps
 pub mod Ring
 pub mod Centre
 pub mod Runs

@@ -1,9 +1,10 @@
 // Where edges are among the centres of a frame.
-ghost use Rattle.std.specs.Prelude.{◌≡◌, ◌<◌, ◌≤◌, ◌<ℤ◌, ◌-ℤ◌, ◌*ℤ◌, ◌*◌, ◌^◌, pos, true, unsigned_abs, ℕ, IsTrue, Some};
+ghost use Rattle.std.specs.Prelude.{◌≡◌, ◌+◌, ◌<◌, ◌≤◌, ◌<ℤ◌, int_lt, nat_le, nat_lt, ◌-ℤ◌, ◌*ℤ◌, ◌*◌, ◌^◌, pos, true, unsigned_abs, ℕ, IsTrue, Some};
 ghost use Rattle.geo_transform.specs.Frame.{IsFrame};
-ghost use Rattle.geo_transform.specs.Corner.{centre2_of};
+ghost use Rattle.geo_transform.specs.Corner.{centre2_of, corner_of};
 ghost use Rattle.burn_scanline.specs.EdgeTable.{IsSpanned};
-ghost use Rattle.burn_scanline.specs.Inner.Crossing.{AreRowsAbove, HasColumn, IsActive, IsAtMost, IsColumnAt, IsLeastSteps, IsTakenFrom, IsUprightAt, is_beside};
+ghost use Rattle.burn_scanline.specs.Steps.{IsLeastSteps};
+ghost use Rattle.burn_scanline.specs.Inner.Crossing.{AreRowsAbove, HasColumn, IsActive, IsAtMost, IsColumnAt, IsTakenFrom, IsUprightAt, is_beside};
 ghost use Rattle.burn_scanline.specs.declared.edge_rows.SpanRule.TheVariants.{Centre};
 
 use crate::edge_rows::SpannedEdge;
@@ -34,8 +35,8 @@ pub(crate) struct Slant {
 // Numbers of at most this size have products that fit 64 bits.
 const SHORT: i64 = 1 << 30;
 
-// The least number of steps of a size that reach so far, if it is below a count, and else the count.
-fn least_steps(reach: i64, size: i64, count: u32) -> u32
+/// The least number of steps of a size that reach so far, if it is below a count, and else the count.
+pub fn least_steps(reach: i64, size: i64, count: u32) -> u32
     requires { pos 0 <ℤ size }
     ensures { IsLeastSteps reach size count result }
 {
@@ -50,8 +51,8 @@ fn least_steps(reach: i64, size: i64, count: u32) -> u32
     }
 }
 
-// The same for wide numbers.
-fn least_wide_steps(reach: i128, size: i128, count: u32) -> u32
+/// The same for wide numbers.
+pub fn least_wide_steps(reach: i128, size: i128, count: u32) -> u32
     requires { pos 0 <ℤ size }
     ensures { IsLeastSteps reach size count result }
 {
@@ -85,6 +86,37 @@ pub(crate) fn rows_above(frame: &Frame, y: Coord) -> u32
 {
     let (_, top) = centre(frame, 0, 0);
     least_steps(top - 2 * y.units() + 1, 2 * frame.cell.units(), frame.nrows)
+}
+
+// The height of the upper side of a row, or of the frame's lower side.
+fn top_of(frame: &Frame, row: u32) -> i64
+    requires frame { IsFrame frame.now }
+    requires row { row ≤ frame.now.nrows }
+    ensures value { result ≡ (corner_of frame.now row 0).1 }
+    ensures bound { unsigned_abs result ≤ 4 * 10 ^ 17 }
+{
+    let (_, y) = frame.corner(row, 0);
+    y.units()
+}
+
+// From which row on the lower side of the cells is below a height.
+pub(crate) fn rows_past(frame: &Frame, y: Coord) -> u32
+    requires { IsFrame frame.now }
+    ensures within { result ≤ frame.now.nrows }
+    ensures rows { (row : ℕ) → row < frame.now.nrows → int_lt (corner_of frame.now (row + 1) 0).1 y ≡ nat_le result row }
+{
+    let below = top_of(frame, 1);
+    least_steps(below - y.units() + 1, frame.cell.units(), frame.nrows)
+}
+
+// How many rows have the upper side of their cells above a height.
+pub(crate) fn rows_reaching(frame: &Frame, y: Coord) -> u32
+    requires { IsFrame frame.now }
+    ensures within { result ≤ frame.now.nrows }
+    ensures rows { (row : ℕ) → row < frame.now.nrows → int_lt y (corner_of frame.now row 0).1 ≡ nat_lt row result }
+{
+    let top = top_of(frame, 0);
+    least_steps(top - y.units(), frame.cell.units(), frame.nrows)
 }
 
 // The column of upright edges at x: the first with its centre at x or right of it, or the number of columns.

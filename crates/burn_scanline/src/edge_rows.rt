@@ -5,11 +5,11 @@ ghost use Rattle.geo_transform.specs.Frame.{IsFrame};
 ghost use Rattle.geo_transform.specs.declared.frame.Frame.{Frame as FrameNumbers};
 ghost use Rattle.burn_scanline.specs.Ring.{all_edges, edges_of};
 ghost use Rattle.burn_scanline.specs.EdgeTable.{IsEdgeTable, edge_of, span_of, starting_below};
-ghost use Rattle.burn_scanline.specs.Inner.Crossing.{AreRowsAbove};
+ghost use Rattle.burn_scanline.specs.Inner.Crossing.{AreRowsAt};
 ghost use Rattle.burn_scanline.specs.Inner.Linking.{Gathers, HaveRowsBelow, HaveRowsFrom, IsFilled, IsHead, IsLinked, IsLinkedTo, LinksOne, edges_in};
-ghost use Rattle.burn_scanline.specs.declared.edge_rows.SpanRule.TheVariants.{Centre};
+ghost use Rattle.burn_scanline.specs.declared.edge_rows.SpanRule.{SpanRule as Rule};
 
-use crate::crossing::rows_above;
+use crate::crossing::{rows_above, rows_past, rows_reaching};
 use geo_transform::Frame;
 use std::alloc::{AllocError, Global};
 use std::marker::Model;
@@ -20,6 +20,9 @@ use wkt_text::{Geometry, Path, Polygons, Pt, Rings};
 pub enum SpanRule {
     /// Those whose centres' height is from the edge's lower end on and below its upper end.
     Centre,
+    /// Those whose open strip, from the lower to the upper side of the row's cells, the edge's heights meet. An edge of no
+    /// length has none.
+    Strip,
 }
 
 /// An edge in the direction of its ring, with its first and its last row.
@@ -38,11 +41,13 @@ pub(crate) struct LinkedEdge {
     pub(crate) link: Option<usize>,
 }
 
-// A point of a ring, and how many rows have their centres at its height or above.
+// A point of a ring; an edge with this end has rows from the one on, if the end is its upper one, and before the other,
+// if it is its lower one.
 #[derive(Clone, Copy)]
 pub(crate) struct RingPoint {
     pub(crate) point: Pt,
-    pub(crate) rows: u32,
+    pub(crate) first: u32,
+    pub(crate) end: u32,
 }
 
 // Edges, the rows from the first that one of them has up to the last, and by these rows the last edge that begins there.
@@ -89,14 +94,25 @@ impl<'a> Iterator for EdgeWalk<'a> {
 }
 
 // A point with its rows.
-fn ring_point(frame: &Frame, point: Pt) -> RingPoint
+fn ring_point(frame: &Frame, rule: SpanRule, point: Pt) -> RingPoint
     requires { IsFrame frame.now }
     ensures point { result.point ≡ point }
-    ensures rows { AreRowsAbove frame.now point.y result.rows }
+    ensures rows { AreRowsAt rule frame.now point.y result.first result.end }
 {
-    RingPoint {
-        point,
-        rows: rows_above(frame, point.y),
+    match rule {
+        SpanRule::Centre => {
+            let rows = rows_above(frame, point.y);
+            RingPoint {
+                point,
+                first: rows,
+                end: rows,
+            }
+        }
+        SpanRule::Strip => RingPoint {
+            point,
+            first: rows_past(frame, point.y),
+            end: rows_reaching(frame, point.y),
+        },
     }
 }
 
@@ -111,37 +127,43 @@ impl RowTable {
         }
     }
 
-    // Adds an edge, if it has rows: those above its lower end that aren't above its upper end.
+    // Adds an edge, if it has rows: from the first of its upper end on, and before the end of its lower one.
     fn push_edge(&mut self, start: &RingPoint, end: &RingPoint) -> Result<(), AllocError>
-        ensures { OnOk result ((frame : FrameNumbers) → AreRowsAbove frame start.now.point.y start.now.rows
-            → AreRowsAbove frame end.now.point.y end.now.rows
-            → Gathers Centre frame ((start.now.point, end.now.point) ∷ []) self.old.edges.items self.new.edges.items) }
+        ensures { OnOk result ((rule : Rule) (frame : FrameNumbers)
+            → AreRowsAt rule frame start.now.point.y start.now.first start.now.end
+            → AreRowsAt rule frame end.now.point.y end.now.first end.now.end
+            → Gathers rule frame ((start.now.point, end.now.point) ∷ []) self.old.edges.items self.new.edges.items) }
     {
-        if start.rows == end.rows {
+        if start.point == end.point {
+            return Ok(());
+        }
+        let first_row = start.first.min(end.first);
+        let end_row = start.end.max(end.end);
+        if first_row >= end_row {
             return Ok(());
         }
         let edge = SpannedEdge {
             start: start.point,
             end: end.point,
-            first: start.rows.min(end.rows),
-            last: start.rows.max(end.rows) - 1,
+            first: first_row,
+            last: end_row - 1,
         };
         self.edges.push(LinkedEdge { edge, link: None })?;
         Ok(())
     }
 
     // Adds the edges of a ring.
-    fn push_ring(&mut self, frame: &Frame, ring: &Path) -> Result<(), AllocError>
+    fn push_ring(&mut self, frame: &Frame, rule: SpanRule, ring: &Path) -> Result<(), AllocError>
         requires { IsFrame frame.now }
-        ensures { OnOk result (Gathers Centre frame.now (edges_of ring.now) self.old.edges.items self.new.edges.items) }
+        ensures { OnOk result (Gathers rule frame.now (edges_of ring.now) self.old.edges.items self.new.edges.items) }
     {
         let points = ring.as_slice();
         if points.is_empty() {
             return Ok(());
         }
-        let mut before = ring_point(frame, points[points.len() - 1]);
+        let mut before = ring_point(frame, rule, points[points.len() - 1]);
         for at in 0..points.len() {
-            let here = ring_point(frame, points[at]);
+            let here = ring_point(frame, rule, points[at]);
             self.push_edge(&before, &here)?;
             before = here;
         }
@@ -149,36 +171,46 @@ impl RowTable {
     }
 
     // Adds the edges of rings.
-    fn push_rings(&mut self, frame: &Frame, rings: &Rings) -> Result<(), AllocError>
+    fn push_rings(&mut self, frame: &Frame, rule: SpanRule, rings: &Rings) -> Result<(), AllocError>
         requires { IsFrame frame.now }
-        ensures { OnOk result (Gathers Centre frame.now (flat_map edges_of rings.now) self.old.edges.items self.new.edges.items) }
+        ensures { OnOk result (Gathers rule frame.now (flat_map edges_of rings.now) self.old.edges.items self.new.edges.items) }
     {
         for ring in rings.as_slice() {
-            self.push_ring(frame, ring)?;
+            self.push_ring(frame, rule, ring)?;
         }
         Ok(())
     }
 
     // Adds the edges of a geometry.
-    fn push_geometry(&mut self, frame: &Frame, g: &Geometry) -> Result<(), AllocError>
+    fn push_geometry(
+        &mut self,
+        frame: &Frame,
+        rule: SpanRule,
+        g: &Geometry,
+    ) -> Result<(), AllocError>
         requires { IsFrame frame.now }
-        ensures { OnOk result (Gathers Centre frame.now (all_edges g.now) self.old.edges.items self.new.edges.items) }
+        ensures { OnOk result (Gathers rule frame.now (all_edges g.now) self.old.edges.items self.new.edges.items) }
     {
         match g {
-            Geometry::Polygon(rings) => self.push_rings(frame, rings),
-            Geometry::MultiPolygon(polygons) => self.push_polygons(frame, polygons),
+            Geometry::Polygon(rings) => self.push_rings(frame, rule, rings),
+            Geometry::MultiPolygon(polygons) => self.push_polygons(frame, rule, polygons),
             _ => Ok(()),
         }
     }
 
     // Adds the edges of polygons.
-    fn push_polygons(&mut self, frame: &Frame, polygons: &Polygons) -> Result<(), AllocError>
+    fn push_polygons(
+        &mut self,
+        frame: &Frame,
+        rule: SpanRule,
+        polygons: &Polygons,
+    ) -> Result<(), AllocError>
         requires { IsFrame frame.now }
-        ensures { OnOk result (Gathers Centre frame.now (flat_map edges_of (flat_map (λ rings. rings) polygons.now))
+        ensures { OnOk result (Gathers rule frame.now (flat_map edges_of (flat_map (λ rings. rings) polygons.now))
             self.old.edges.items self.new.edges.items) }
     {
         for rings in polygons.as_slice() {
-            self.push_rings(frame, rings)?;
+            self.push_rings(frame, rule, rings)?;
         }
         Ok(())
     }
@@ -254,9 +286,7 @@ impl RowTable {
         ensures { OnOk result (IsFilled rule frame.now g.now self.new) }
     {
         self.edges.clear();
-        match rule {
-            SpanRule::Centre => self.push_geometry(frame, g)?,
-        }
+        self.push_geometry(frame, rule, g)?;
         self.link(frame.nrows)
     }
 

@@ -1,6 +1,6 @@
 -- Odd and even counts of edges.
 use Rattle.std.proofs.Common.{◌≡◌, ℕ, ◌+◌, ◌%◌, Bool, true, false, cond, List, [], ◌∷◌, refl, sym, ap, ◌∙◌, arith}
-use Rattle.std.specs.Prelude.{◌==◌, ◌&&◌, ◌||◌}
+use Rattle.std.specs.Prelude.{◌==◌, ◌&&◌, ◌||◌, count_by}
 use Rattle.std.proofs.lemmas.Bool.Decides.{nat_tests}
 use Rattle.std.proofs.lemmas.List.Sums.{sum_by-cons}
 use Rattle.cell_base.specs.Raster.{Place}
@@ -76,10 +76,14 @@ unfolding xor
 odd_step true n = grind (arith, nat_tests)
 odd_step false n = grind (arith, nat_tests)
 
--- the parity is that of the crossing count
-pub odd_is_count : (cell : Place) (edges : List Edge) → is_odd (is_crossed cell) edges ≡ ((crossing_count edges cell % 2) == 1)
-odd_is_count cell [] = refl
-odd_is_count cell (e ∷ es) =
+-- the parity of those that pass is that of their count
+pub odd_count : {A : Type 0} (test : A → Bool) (xs : List A) → is_odd test xs ≡ ((count_by test xs % 2) == 1)
+odd_count test [] = refl
+odd_count test (x ∷ xs) =
     let bit : Bool → ℕ = λ b. cond b 1 0 in
-    let more : crossing_count (e ∷ es) cell ≡ bit (is_crossed cell e) + crossing_count es cell = sum_by-cons (λ x. bit (is_crossed cell x)) e es in
-    ap (xor (is_crossed cell e)) (odd_is_count cell es) ∙ odd_step (is_crossed cell e) (crossing_count es cell) ∙ ap (λ (n : ℕ). (n % 2) == 1) (sym more)
+    let more : count_by test (x ∷ xs) ≡ bit (test x) + count_by test xs = sum_by-cons (λ y. bit (test y)) x xs in
+    ap (xor (test x)) (odd_count test xs) ∙ odd_step (test x) (count_by test xs) ∙ ap (λ (n : ℕ). (n % 2) == 1) (sym more)
+
+-- so that of the crossed edges is that of the crossing count
+pub odd_is_count : (cell : Place) (edges : List Edge) → is_odd (is_crossed cell) edges ≡ ((crossing_count edges cell % 2) == 1)
+odd_is_count cell edges = odd_count (is_crossed cell) edges

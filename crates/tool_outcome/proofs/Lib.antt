@@ -3,4 +3,5 @@ pub mod SieveLemmas
 pub mod PolygonizeLemmas
 pub mod ContourLemmas
 pub mod OneOutcomeLemmas
+pub mod WrittenLemmas
 mod RasterizeExamples

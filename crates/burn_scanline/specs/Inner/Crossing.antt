@@ -1,17 +1,15 @@
 -- Where edges are among the centres of a frame.
-use Rattle.std.specs.Prelude.{◌≡◌, ℕ, ◌<◌, ◌≤◌, ℤ, ◌-ℤ◌, ◌*ℤ◌, pos, unsigned_abs, int_le, nat_le, nat_lt, Bool, true, Some}
-use Rattle.geo_transform.specs.Corner.{centre2_of}
+use Rattle.std.specs.Prelude.{◌≡◌, ℕ, ◌+◌, ◌<◌, ◌≤◌, ℤ, ◌-ℤ◌, ◌*ℤ◌, pos, unsigned_abs, int_le, int_lt, nat_le, nat_lt, Bool, true, Some}
+use Rattle.geo_transform.specs.Corner.{centre2_of, corner_of}
 use Rattle.geo_transform.specs.declared.frame.Frame.{Frame}
 use Rattle.wkt_text.specs.declared.geometry.Pt.{Pt}
+use Rattle.burn_scanline.specs.Steps.{IsLeastSteps}
 use Rattle.burn_scanline.specs.Centre.{counts, counts_up, doubled, is_between, is_left}
 use Rattle.burn_scanline.specs.EdgeTable.{SpannedEdge}
 use Rattle.burn_scanline.specs.declared.crossing.ActiveEdge.{ActiveEdge}
+use Rattle.burn_scanline.specs.declared.edge_rows.SpanRule.{SpanRule}
+use Rattle.burn_scanline.specs.declared.edge_rows.SpanRule.TheVariants.{Centre, Strip}
 use Rattle.burn_scanline.specs.declared.crossing.Slant.{Slant}
-
--- so many steps of a size, or more, reach so far, of those below a count
-pub record IsLeastSteps (reach size : ℤ) (count steps : ℕ) : Type 0 where
-  pub within : steps ≤ count
-  pub at : (n : ℕ) → n < count → int_le reach (size *ℤ pos n) ≡ nat_le steps n
 
 -- no number of a slant is larger
 pub record IsAtMost (n : ℕ) (slant : Slant) : Type 0 where
@@ -29,6 +27,18 @@ HasColumn slant ncols column = IsLeastSteps (slant.along *ℤ slant.above -ℤ s
 pub record AreRowsAbove (frame : Frame) (y : ℤ) (rows : ℕ) : Type 0 where
   pub within : rows ≤ frame.nrows
   pub at : (row : ℕ) → row < frame.nrows → int_le (pos 2 *ℤ y) (centre2_of frame row 0).1 ≡ nat_lt row rows
+
+-- the rows from one on have the lower side of their cells below this height, and the rows before another have the upper
+-- side of theirs above it
+pub record AreStripRows (frame : Frame) (y : ℤ) (first end : ℕ) : Type 0 where
+  pub within : end ≤ frame.nrows
+  pub above : (row : ℕ) → row < frame.nrows → int_lt (corner_of frame (row + 1) 0).1 y ≡ nat_le first row
+  pub below : (row : ℕ) → row < frame.nrows → int_lt y (corner_of frame row 0).1 ≡ nat_lt row end
+
+-- from which row on, and before which, an edge has rows on account of an end at this height
+abbrev pub AreRowsAt : SpanRule → Frame → ℤ → ℕ → ℕ → Type 0
+AreRowsAt Centre frame y first end = AreRowsAbove frame y first × (end ≡ first)
+AreRowsAt Strip frame y first end = AreStripRows frame y first end
 
 -- in this row the centres from a column on are at the edge or right of it, and the others aren't
 pub record IsColumnAt (frame : Frame) (low high : Pt) (row column : ℕ) : Type 0 where

@@ -1,0 +1,15 @@
+pub mod SideLemmas
+pub mod CutLemmas
+pub mod RingLemmas
+pub mod CoverLemmas
+pub mod BurnedLemmas
+pub mod SourceLemmas
+pub mod GridLemmas
+pub mod FeatureLemmas
+pub mod LayerLemmas
+pub mod ExtentLemmas
+pub mod WordLemmas
+pub mod RoundTripLemmas
+pub mod NameLemmas
+pub mod LawLemmas
+pub mod BackExamples
