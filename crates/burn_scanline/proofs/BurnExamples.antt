@@ -60,15 +60,15 @@ abbrev squares : List BurnedFeature
 squares = record { geometry = Polygon (square 0 4 ∷ []); value = pos 200 } ∷ record { geometry = Polygon (square 2 6 ∷ []); value = pos 100 } ∷ []
 
 -- of two that overlap the last one stays
-set : cells_by (inside_value least_byte most_byte Set frame (pos 0) squares) ≡ three (three (pos 0) (pos 100) (pos 100)) (three (pos 200) (pos 100) (pos 100)) (three (pos 200) (pos 200) (pos 0))
+set : cells_by (inside_value least_byte most_byte Set is_covered frame (pos 0) squares) ≡ three (three (pos 0) (pos 100) (pos 100)) (three (pos 200) (pos 100) (pos 100)) (three (pos 200) (pos 200) (pos 0))
 set = refl
 
 -- sums are held at the ends of the type
-added : cells_by (inside_value least_byte most_byte Add frame (pos 0) squares) ≡ three (three (pos 0) (pos 100) (pos 100)) (three (pos 200) (pos 255) (pos 100)) (three (pos 200) (pos 200) (pos 0))
+added : cells_by (inside_value least_byte most_byte Add is_covered frame (pos 0) squares) ≡ three (three (pos 0) (pos 100) (pos 100)) (three (pos 200) (pos 255) (pos 100)) (three (pos 200) (pos 200) (pos 0))
 added = refl
 
-outside : cells_by (outside_value least_byte most_byte Set frame (pos 0) (Some (pos 9)) squares) ≡ three (three (pos 9) (pos 0) (pos 0)) (three (pos 0) (pos 0) (pos 0)) (three (pos 0) (pos 0) (pos 9))
+outside : cells_by (outside_value least_byte most_byte Set is_covered frame (pos 0) (Some (pos 9)) squares) ≡ three (three (pos 9) (pos 0) (pos 0)) (three (pos 0) (pos 0) (pos 0)) (three (pos 0) (pos 0) (pos 9))
 outside = refl
 
-nothing_outside : cells_by (outside_value least_byte most_byte Add frame (pos 3) None squares) ≡ three (three (pos 3) (pos 3) (pos 3)) (three (pos 3) (pos 3) (pos 3)) (three (pos 3) (pos 3) (pos 3))
+nothing_outside : cells_by (outside_value least_byte most_byte Add is_covered frame (pos 3) None squares) ≡ three (three (pos 3) (pos 3) (pos 3)) (three (pos 3) (pos 3) (pos 3)) (three (pos 3) (pos 3) (pos 3))
 nothing_outside = refl

@@ -34,7 +34,7 @@ abbrev AllHave : Frame → Place → ℤ → List BurnedFeature → Type 0
 AllHave frame cell w features = (f : BurnedFeature) → Contains features f → is_covered frame f.geometry cell ≡ true → f.value ≡ w
 
 burned_same : (least greatest : ℤ) (frame : Frame) (cell : Place) (w : ℤ) (features : List BurnedFeature) (initial : ℤ)
-    → AllHave frame cell w features → initial ≡ w → inside_value least greatest Set frame initial features cell ≡ w
+    → AllHave frame cell w features → initial ≡ w → inside_value least greatest Set is_covered frame initial features cell ≡ w
 burned_same least greatest frame cell w [] initial all start = start
 burned_same least greatest frame cell w (f ∷ fs) initial all start =
     burned_same least greatest frame cell w fs _ (λ g member. all g (contains_there f fs g member))
@@ -43,7 +43,7 @@ burned_same least greatest frame cell w (f ∷ fs) initial all start =
 -- where one of them covers it, the value before doesn't matter
 burned_found : (least greatest : ℤ) (frame : Frame) (cell : Place) (w : ℤ) (features : List BurnedFeature) (initial : ℤ)
     → AllHave frame cell w features → (f : BurnedFeature) → Contains features f → is_covered frame f.geometry cell ≡ true
-    → inside_value least greatest Set frame initial features cell ≡ w
+    → inside_value least greatest Set is_covered frame initial features cell ≡ w
 burned_found least greatest frame cell w [] initial all f member covered = absurd (omega (arith, member.1))
 burned_found least greatest frame cell w (g ∷ gs) initial all f member covered = elim (contains_cases g gs f member) [
   | inl here ↦
@@ -102,7 +102,7 @@ same_value x y o one other = cc
 valid_back : (least greatest : ℤ) (frame : Frame) (cells : Raster ℤ) (valid : Raster Bool) (regions : RegionTable) (features : List BurnedFeature) (initial : ℤ)
     → IsLabelledOver frame cells valid regions → AreFeaturesOf frame cells regions features
     → (p : Place) → IsInFrame frame p → IsMarked valid p → (w : ℤ) → value_at cells p ≡ Some w
-    → inside_value least greatest Set frame initial features p ≡ w
+    → inside_value least greatest Set is_covered frame initial features p ≡ w
 valid_back least greatest frame cells valid regions features initial is are p inside marked w value =
     let number = (is.labelled.valid_cells p).0 marked in
     let found = element_at features number.0 (omega (arith, is.labelled.known number.0 p number.1, are.count)) in
@@ -114,7 +114,7 @@ valid_back least greatest frame cells valid regions features initial is are p in
 -- any other holds what it held before
 other_back : (least greatest : ℤ) (frame : Frame) (cells : Raster ℤ) (valid : Raster Bool) (regions : RegionTable) (features : List BurnedFeature) (initial : ℤ)
     → IsLabelledOver frame cells valid regions → AreFeaturesOf frame cells regions features
-    → (p : Place) → IsInFrame frame p → ¬ IsMarked valid p → inside_value least greatest Set frame initial features p ≡ initial
+    → (p : Place) → IsInFrame frame p → ¬ IsMarked valid p → inside_value least greatest Set is_covered frame initial features p ≡ initial
 other_back least greatest frame cells valid regions features initial is are p inside none =
     burned_same least greatest frame p initial features initial
     (λ f member covered. absurd (none ((all_have frame cells valid regions features is are p inside f member covered).1))) refl
@@ -122,11 +122,11 @@ other_back least greatest frame cells valid regions features initial is are p in
 -- so each cell holds its value where it is valid, and else what it held before
 pub cell_back : (least greatest : ℤ) (frame : Frame) (cells : Raster ℤ) (valid : Raster Bool) (regions : RegionTable) (features : List BurnedFeature) (initial : ℤ)
     → IsLabelledOver frame cells valid regions → AreFeaturesOf frame cells regions features
-    → (p : Place) → IsInFrame frame p → inside_value least greatest Set frame initial features p ≡ normal_value cells valid initial p
+    → (p : Place) → IsInFrame frame p → inside_value least greatest Set is_covered frame initial features p ≡ normal_value cells valid initial p
 cell_back least greatest frame cells valid regions features initial is are p inside = decide (value_at valid p) refl
   where
     held : ℤ
-    held = inside_value least greatest Set frame initial features p
+    held = inside_value least greatest Set is_covered frame initial features p
 
     by_mask : Option Bool → ℤ
     by_mask mask = if unwrap_or mask false then unwrap_or (value_at cells p) initial else initial
@@ -146,9 +146,9 @@ cell_back least greatest frame cells valid regions features initial is are p ins
 -- and the grid is the normalised one
 pub grid_back : (least greatest : ℤ) (frame : Frame) (cells : Raster ℤ) (valid : Raster Bool) (regions : RegionTable) (features : List BurnedFeature) (initial : ℤ)
     → IsLabelledOver frame cells valid regions → AreFeaturesOf frame cells regions features
-    → raster_by frame.ncols frame.nrows (inside_value least greatest Set frame initial features) ≡ normalised cells valid initial
+    → raster_by frame.ncols frame.nrows (inside_value least greatest Set is_covered frame initial features) ≡ normalised cells valid initial
 grid_back least greatest frame cells valid regions features initial is are =
-    raster_same frame.ncols frame.nrows (inside_value least greatest Set frame initial features) (normal_value cells valid initial)
+    raster_same frame.ncols frame.nrows (inside_value least greatest Set is_covered frame initial features) (normal_value cells valid initial)
     (λ row col in_row in_col. cell_back least greatest frame cells valid regions features initial is are (row, col) (in_row, in_col))
     ∙ ap (λ (n : ℕ). raster_by n frame.nrows (normal_value cells valid initial)) (sym is.ncols)
     ∙ ap (λ (n : ℕ). raster_by cells.ncols n (normal_value cells valid initial)) (sym is.nrows)

@@ -14,6 +14,7 @@ use Rattle.region_label.specs.Labelling.{IsLabelling, RegionTable}
 use Rattle.region_label.proofs.OneLemmas.{one_labelling}
 use Rattle.ring_faces.specs.LatticePolygon.{Polygon}
 use Rattle.burn_scanline.specs.Burned.{BurnedFeature, inside_value}
+use Rattle.burn_scanline.specs.Centre.{is_covered}
 use Rattle.burn_scanline.specs.declared.burning.How.TheVariants.{Set}
 use Rattle.ogr_csv.specs.declared.feature.Feature.{Feature}
 use Rattle.tool_words.specs.Words.{Text}
@@ -83,7 +84,7 @@ answer_back asc job text layer dest files is by_sides other has told =
 
     cells : burned_cells back asc.frame features ≡ asc.cells
     cells =
-        ap (λ (fs : List BurnedFeature). raster_by asc.frame.ncols asc.frame.nrows (inside_value (least_of Int64) (most_of Int64) Set asc.frame (held Int64 (outside_of asc.nodata)) fs))
+        ap (λ (fs : List BurnedFeature). raster_by asc.frame.ncols asc.frame.nrows (inside_value (least_of Int64) (most_of Int64) Set is_covered asc.frame (held Int64 (outside_of asc.nodata)) fs))
         (all_burned job.field asc.frame components rows)
         ∙ grid_back (least_of Int64) (most_of Int64) asc.frame asc.cells has.valid has.sides (map (burned_component asc.frame) components) (held Int64 (outside_of asc.nodata))
         (record { is_frame = is.frame; ncols = is.ncols; nrows = is.nrows; labelled = has.by_sides })

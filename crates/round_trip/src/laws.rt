@@ -36,7 +36,7 @@ pub fn polygons_give_the_grid_back()
     ensures { (least greatest : ℤ) (frame : Frame) (cells : Raster ℤ) (valid : Raster Bool) (regions : RegionTable)
         (features : List BurnedFeature) (initial : ℤ)
         → IsLabelledOver frame cells valid regions → AreFeaturesOf frame cells regions features
-        → raster_by frame.ncols frame.nrows (inside_value least greatest Set frame initial features) ≡ normalised cells valid initial }
+        → raster_by frame.ncols frame.nrows (inside_value least greatest Set is_covered frame initial features) ≡ normalised cells valid initial }
 {}
 
 /// The normalised grid is the grid itself, where the valid cells are those without the nodata value and the other value is

@@ -119,7 +119,6 @@ line_of_fault source dest (fault.NotPolygon number) = line_of_record source numb
 line_of_fault source dest fault.NoExtent = source ++ codes ": no extent\n"
 line_of_fault source dest (fault.Frame offence) = line_of_frame offence
 line_of_fault source dest fault.WriteFault = dest ++ codes ": write failed\n"
-line_of_fault source dest fault.NotBuilt = codes "not built\n"
 line_of_fault source dest fault.NoMemory = codes "out of memory\n"
 
 -- the line of an answer, none where the job was done

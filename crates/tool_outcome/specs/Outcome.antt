@@ -15,7 +15,6 @@ use Rattle.tool_outcome.specs.Rasterize.{rasterize_answer}
 use Rattle.tool_outcome.specs.Sieve.{IsSieveAnswer}
 use Rattle.tool_outcome.specs.Status.{status_of_fault, status_of_words}
 use Rattle.tool_outcome.specs.declared.fault.Fault.{Fault}
-use Rattle.tool_outcome.specs.declared.fault.Fault.TheVariants.{NotBuilt}
 use Rattle.tool_outcome.specs.declared.status.Status.{Status}
 use Rattle.tool_outcome.specs.declared.status.Status.TheVariants.{Done}
 
@@ -25,13 +24,6 @@ pub record Outcome : Type 0 where
   pub line : List ℕ
   pub files : Files
   pub out : List ℕ
-
--- the jobs that are built
-abbrev pub is_built : Job → Bool
-is_built (Sieve job) = true
-is_built (Polygonize job) = true
-is_built (Rasterize job) = not job.touched
-is_built (Contour job) = true
 
 -- the answer for a job
 abbrev pub IsAnswerFor : Job → Files → Answer → Type 0
@@ -91,8 +83,3 @@ WordsCanBeDone (Ok job) files = CanBeDone job files
 abbrev pub WordsLeavePart : Result Job WordFault → Files → Option Files → Type 0
 WordsLeavePart (Err fault) files now = now ≡ Some files
 WordsLeavePart (Ok job) files now = LeavesPart job files now
-
--- words with a job that is not built
-abbrev pub AreUnbuilt : Result Job WordFault → Type 0
-AreUnbuilt (Err fault) = ⊥
-AreUnbuilt (Ok job) = is_built job ≡ false

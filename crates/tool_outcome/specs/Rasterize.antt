@@ -1,6 +1,6 @@
 -- What gdal_rasterize writes. Source: its manual, by the burned grid; the extent of a layer, the order of refusals and what
 -- is burned outside are this project's own.
-use Rattle.std.specs.Prelude.{ℕ, ℤ, ◌&&◌, pos, int_lt, Bool, if◌then◌else◌, List, [], ◌∷◌, map, Option, Some, None, option_map, Result, Ok, Err}
+use Rattle.std.specs.Prelude.{ℕ, ℤ, ◌&&◌, pos, int_lt, Bool, true, false, if◌then◌else◌, List, [], ◌∷◌, map, Option, Some, None, option_map, Result, Ok, Err}
 use Rattle.std.specs.List.{range_with_len}
 use Rattle.std.specs.Option.{option_or}
 use Rattle.rv_outside.specs.Files.{Files}
@@ -16,7 +16,9 @@ use Rattle.geo_transform.specs.declared.fault.FrameFault.{FrameFault}
 use Rattle.geo_transform.specs.declared.fault.FrameFault.TheVariants.{BadCell}
 use Rattle.geo_transform.specs.declared.frame.Frame.{Frame}
 use Rattle.ogr_csv.specs.declared.feature.Feature.{Feature}
-use Rattle.burn_scanline.specs.Burned.{BurnedFeature, inside_value, outside_value}
+use Rattle.burn_scanline.specs.Burned.{BurnedFeature, Cover, inside_value, outside_value}
+use Rattle.burn_scanline.specs.Centre.{is_covered}
+use Rattle.all_touched.specs.Touched.{is_touched}
 use Rattle.burn_scanline.specs.declared.burning.How.{How}
 use Rattle.burn_scanline.specs.declared.burning.How.TheVariants.{Set, Add}
 use Rattle.tool_words.specs.declared.job.RasterizeJob.{RasterizeJob}
@@ -29,7 +31,7 @@ use Rattle.tool_outcome.specs.Features.{burned_features, field_of, first_other, 
 use Rattle.tool_outcome.specs.LayerExtent.{layer_extent}
 use Rattle.tool_outcome.specs.Source.{text_of}
 use Rattle.tool_outcome.specs.declared.fault.Fault.{Fault}
-use Rattle.tool_outcome.specs.declared.fault.Fault.TheVariants.{Frame as FrameOf, NoExtent, NotBuilt, NotPolygon}
+use Rattle.tool_outcome.specs.declared.fault.Fault.TheVariants.{Frame as FrameOf, NoExtent, NotPolygon}
 
 -- the ends of a type of cells
 
@@ -71,6 +73,11 @@ abbrev pub outside_of : (ℤ → ℤ) → ValueFrom → List BurnedFeature → O
 outside_of hold (Burn value) features = Some (hold value)
 outside_of hold (Field name) features = first_value features
 
+-- which cells a geometry covers: by the centre rule, or with `-at` those that it touches
+abbrev pub covers_by : Bool → Cover
+covers_by false frame g cell = is_covered frame g cell
+covers_by true frame g cell = is_touched frame g cell
+
 -- a cell after these features were burned on the initial value, or with `-i` after one value was burned outside them
 abbrev pub burned_value : RasterizeJob → Frame → List BurnedFeature → Place → ℤ
 burned_value job frame features cell =
@@ -79,8 +86,8 @@ burned_value job frame features cell =
     let how = how_of job.add in
     let initial = held job.kind job.init in
     if job.invert
-    then outside_value least most how frame initial (outside_of (held job.kind) job.value features) features cell
-    else inside_value least most how frame initial features cell
+    then outside_value least most how (covers_by job.touched) frame initial (outside_of (held job.kind) job.value features) features cell
+    else inside_value least most how (covers_by job.touched) frame initial features cell
 
 -- the cells that a job burns over a frame
 abbrev pub burned_cells : RasterizeJob → Frame → List Feature → Raster ℤ
@@ -122,7 +129,6 @@ of_layer job (Err fault) = Err fault
 of_layer job (Ok features) = of_polygons job features (first_other features)
 
 -- the answer of gdal_rasterize: the source's refusal, then a record that isn't a polygon, then no extent, then the frame's
--- fault, and else the text. With `-at` it isn't built
+-- fault, and else the text
 abbrev pub rasterize_answer : RasterizeJob → Files → Answer
-rasterize_answer job files =
-    if job.touched then Err NotBuilt else of_layer job (layer_in (field_of job.value) (files job.source))
+rasterize_answer job files = of_layer job (layer_in (field_of job.value) (files job.source))

@@ -12,7 +12,7 @@ use Rattle.ogr_csv.specs.declared.fault.LayerFault.TheVariants as layer
 use Rattle.tool_words.specs.declared.fault.WordFault.{WordFault}
 use Rattle.tool_words.specs.declared.fault.WordFault.TheVariants as words
 use Rattle.tool_outcome.specs.declared.status.Status.{Status}
-use Rattle.tool_outcome.specs.declared.status.Status.TheVariants.{Done, Usage, BadInput, Missing, ReadFault, WriteFault, NoMemory, TooLarge, NotBuilt}
+use Rattle.tool_outcome.specs.declared.status.Status.TheVariants.{Done, Usage, BadInput, Missing, ReadFault, WriteFault, NoMemory, TooLarge}
 use Rattle.tool_outcome.specs.declared.fault.Fault.{Fault}
 use Rattle.tool_outcome.specs.declared.fault.Fault.TheVariants as fault
 
@@ -26,7 +26,6 @@ number_of ReadFault = 4
 number_of WriteFault = 5
 number_of NoMemory = 6
 number_of TooLarge = 7
-number_of NotBuilt = 8
 
 -- the status of refused words
 abbrev pub status_of_words : WordFault → Status
@@ -63,7 +62,6 @@ status_of_fault (fault.NotPolygon number) = BadInput
 status_of_fault fault.NoExtent = BadInput
 status_of_fault (fault.Frame offence) = status_of_frame offence
 status_of_fault fault.WriteFault = WriteFault
-status_of_fault fault.NotBuilt = NotBuilt
 status_of_fault fault.NoMemory = NoMemory
 
 -- the status of an answer

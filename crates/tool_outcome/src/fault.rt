@@ -44,9 +44,6 @@ pub enum Fault {
     /// The destination could not be made, or a write to it failed.
     #[error("write failed")]
     WriteFault,
-    /// The job is not built yet.
-    #[error("not built")]
-    NotBuilt,
     /// Memory ran out.
     #[error("out of memory")]
     NoMemory,

@@ -21,8 +21,6 @@ pub enum Status {
     NoMemory,
     /// A frame has too many cells.
     TooLarge,
-    /// The job, or the form of the source, is not built yet.
-    NotBuilt,
 }
 
 impl Status {
@@ -39,7 +37,6 @@ impl Status {
             Status::WriteFault => 5,
             Status::NoMemory => 6,
             Status::TooLarge => 7,
-            Status::NotBuilt => 8,
         }
     }
 }

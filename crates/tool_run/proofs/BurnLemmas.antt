@@ -72,15 +72,14 @@ over_some job features extent frame polygons is cut = rw (polygons, is, cut) ref
 
 -- the features were read of the source, and there is a frame to burn them over
 pub record WasBurned (job : RasterizeJob) (old : Option Files) (features : List Feature) (frame : Frame) : Type 0 where
-  pub built : job.touched ≡ false
   pub read : IfSome old (λ files. layer_in (field_of job.value) (files job.source) ≡ Ok features)
   pub over : IsOver job features (Ok frame)
 
-answered : (job : RasterizeJob) (files : Files) (layer : Result (List Feature) Fault) (answer : Answer) → job.touched ≡ false → layer_in (field_of job.value) (files job.source) ≡ layer → answer ≡ of_layer job layer → IsAnswerFor (Rasterize job) files answer
-answered job files layer answer built read is = rw (built, read) is
+answered : (job : RasterizeJob) (files : Files) (layer : Result (List Feature) Fault) (answer : Answer) → layer_in (field_of job.value) (files job.source) ≡ layer → answer ≡ of_layer job layer → IsAnswerFor (Rasterize job) files answer
+answered job files layer answer read is = rw read is
 
 is_answer : (job : RasterizeJob) (files : Files) (features : List Feature) (frame : Frame) → WasBurned job (Some files) features frame → IsAnswerFor (Rasterize job) files (Ok (rasterize_text job frame features))
-is_answer job files features frame was = answered job files (Ok features) (Ok (rasterize_text job frame features)) was.built was.read (sym was.over)
+is_answer job files features frame was = answered job files (Ok features) (Ok (rasterize_text job frame features)) was.read (sym was.over)
 
 pub can_be_done : (job : RasterizeJob) (old : Option Files) (features : List Feature) (frame : Frame) → WasBurned job old features frame → IfSome old (CanBeDone (Rasterize job))
 can_be_done job None features frame was = tt
@@ -98,14 +97,14 @@ done job None new features frame was written = tt
 done job (Some files) new features frame was written = (rasterize_text job frame features, is_answer job files features frame was, written)
 
 -- the source is refused
-pub source_refused : (job : RasterizeJob) (old new : Option Files) (fault : Fault) → job.touched ≡ false → IfSome old (λ files. layer_in (field_of job.value) (files job.source) ≡ Err fault) → new ≡ old → IfSome old (λ files. Does (Rasterize job) files (Err fault) new)
-source_refused job None new fault built is same = tt
-source_refused job (Some files) new fault built is same = (answered job files (Err fault) (Err fault) built is refl, same)
+pub source_refused : (job : RasterizeJob) (old new : Option Files) (fault : Fault) → IfSome old (λ files. layer_in (field_of job.value) (files job.source) ≡ Err fault) → new ≡ old → IfSome old (λ files. Does (Rasterize job) files (Err fault) new)
+source_refused job None new fault is same = tt
+source_refused job (Some files) new fault is same = (answered job files (Err fault) (Err fault) is refl, same)
 
 -- there is no frame
-pub frame_refused : (job : RasterizeJob) (old new : Option Files) (features : List Feature) (fault : Fault) → job.touched ≡ false → IfSome old (λ files. layer_in (field_of job.value) (files job.source) ≡ Ok features) → IsOver job features (Err fault) → new ≡ old → IfSome old (λ files. Does (Rasterize job) files (Err fault) new)
-frame_refused job None new features fault built read over same = tt
-frame_refused job (Some files) new features fault built read over same = (answered job files (Ok features) (Err fault) built read (sym over), same)
+pub frame_refused : (job : RasterizeJob) (old new : Option Files) (features : List Feature) (fault : Fault) → IfSome old (λ files. layer_in (field_of job.value) (files job.source) ≡ Ok features) → IsOver job features (Err fault) → new ≡ old → IfSome old (λ files. Does (Rasterize job) files (Err fault) new)
+frame_refused job None new features fault read over same = tt
+frame_refused job (Some files) new features fault read over same = (answered job files (Ok features) (Err fault) read (sym over), same)
 
 -- the files are as they were
 pub stays : (job : RasterizeJob) (old new : Option Files) → new ≡ old → IfSome old (λ files. LeavesPart (Rasterize job) files new)

@@ -63,7 +63,6 @@ refused_by job asc (fault.Missing role) many decided = absurd many
 refused_by job asc (fault.ReadFault role) many decided = absurd many
 refused_by job asc (fault.Grid role offence) many decided = absurd many
 refused_by job asc fault.WriteFault many decided = absurd many
-refused_by job asc fault.NotBuilt many decided = absurd many
 
 -- the grid was read, and asks for too many levels
 pub refused : (job : ContourJob) (old new : Option Files) (asc : Asc ℤ) (fault : Fault) → IfSome old (λ files. Ok asc ≡ source_by micro_of (files job.source)) → IsLevelFault job asc fault → new ≡ old → IsDecided (status_of_fault fault) → IfSome old (λ files. Does (Contour job) files (Err fault) new)

@@ -1,6 +1,8 @@
 -- What a run tells of the answer of its tool.
 use Rattle.std.proofs.Common.{◌≡◌, ◌≢◌, ◌∙◌, ap, ℕ, List, Option, Some, None, Result, Ok, Err, IfSome, OnErr, refl, sym, subst}
 use Rattle.rv_outside.specs.Files.{Files, with_file}
+use Rattle.round_trip.specs.RoundTrip.{MakesRoundTrip}
+use Rattle.round_trip.proofs.LawLemmas.{makes_round_trip}
 use Rattle.rv_outside.specs.Sink.{SinkState}
 use Rattle.asc_grid.specs.declared.fault.GridKind.{GridKind}
 use Rattle.asc_grid.specs.declared.fault.GridKind.TheVariants.{UnknownKeyword, RepeatedKeyword, MissingKeyword, BadNumber, OutOfRange, TooLarge, BadCell, TooFewCells, TooManyCells}
@@ -66,7 +68,6 @@ line_is job (Err (fault.NotPolygon number)) = (fault.NotPolygon number, refl, re
 line_is job (Err fault.NoExtent) = (fault.NoExtent, refl, refl)
 line_is job (Err (fault.Frame offence)) = frame_line job offence
 line_is job (Err fault.WriteFault) = (fault.WriteFault, refl, refl)
-line_is job (Err fault.NotBuilt) = (fault.NotBuilt, refl, refl)
 line_is job (Err fault.NoMemory) = (fault.NoMemory, refl, refl)
 
 -- refused words, or want of memory in place of a job
@@ -104,3 +105,20 @@ pub leaves_part : (old now : Option Files) (words : List Text) (job : Job) (answ
 leaves_part old now words job (Ok u) is other part = absurd (other refl)
 leaves_part None now words job (Err fault) is other part = tt
 leaves_part (Some files) now words job (Err fault) is other part = subst (λ j. WordsLeavePart j files now) (sym is) part
+
+-- what was polygonized comes back
+
+comes_back : (words : List Text) (files : Files) (status : Status) (line : List ℕ) (now : Option Files) → Meets words files status line now
+    → IfSome now (MakesRoundTrip (job_of words) files)
+comes_back words files status line now (after, now_is, is) =
+    subst (λ o. IfSome o (MakesRoundTrip (job_of words) files)) (sym now_is)
+    (makes_round_trip words files (record { status = status; line = line; files = after; out = [] }) is)
+
+pub round_trip : (old now : Option Files) (words : List Text) (status : Status) (line : List ℕ) → (IsDecided status → IfSome old (λ files. Meets words files status line now))
+    → status ≡ Done → IfSome old (λ files. IfSome now (MakesRoundTrip (job_of words) files))
+round_trip None now words status line met done = tt
+round_trip (Some files) now words status line met done = comes_back words files status line now (met (subst IsDecided (sym done) tt))
+
+pub not_done : (refusal : WordFault) → status_of_words refusal ≡ Done → ⊥
+not_done (word.At kind place) is = absurd (cc is)
+not_done word.NoMemory is = absurd (cc is)

@@ -3,10 +3,12 @@ ghost use Rattle.std.specs.Prelude.{◌≡◌, IfOk, OnOk, option_map};
 ghost use Rattle.cell_base.specs.Clamped.{clamped};
 ghost use Rattle.geo_transform.specs.Frame.{IsFrame};
 ghost use Rattle.burn_scanline.specs.Burned.{HoldsValues};
+ghost use Rattle.burn_scanline.specs.Runs.{AreWithin};
 ghost use Rattle.tool_outcome.specs.Features.{burned_features, value_for};
 ghost use Rattle.tool_outcome.specs.Rasterize.{burned_value, first_value, held, how_of, outside_of};
-ghost use Rattle.tool_run.specs.Inner.Strokes.{AddsFeature, AreStrokesOf, IsKind, IsShapeOf, outside_start};
+ghost use Rattle.tool_run.specs.Inner.Strokes.{AddsFeature, AreStrokesOf, IsCover, IsKind, IsShapeOf, outside_start};
 
+use all_touched::{TouchScan, touched_runs};
 use burn_scanline::{CentreScan, How, RunList, burn_runs, burned_on, centre_runs};
 use cell_base::{Cell, Grid};
 use geo_transform::Frame;
@@ -22,6 +24,15 @@ pub(crate) struct Strokes<T> {
     pub(crate) initial: T,
     pub(crate) one: Option<T>,
     pub(crate) how: How,
+    pub(crate) touched: bool,
+}
+
+// What is kept from feature to feature while their covered or touched cells are found.
+#[derive(Drop)]
+struct Scan {
+    centre: CentreScan,
+    touch: TouchScan,
+    runs: RunList,
 }
 
 /// The cell that holds a value, or the nearer end of the type.
@@ -106,24 +117,50 @@ fn strokes_of<T: Cell>(job: &RasterizeJob, features: &[Feature]) -> Strokes<T>
             initial,
             one: None,
             how,
+            touched: job.touched,
         };
     }
     Strokes {
         initial: outside_cell(initial, how, &job.value, features),
         one: Some(initial),
         how: How::Set,
+        touched: job.touched,
+    }
+}
+
+impl Scan {
+    fn new(alloc: Global) -> Scan {
+        Scan {
+            centre: CentreScan::new(alloc),
+            touch: TouchScan::new(alloc),
+            runs: RunList::new(alloc),
+        }
+    }
+
+    // Finds the cells that a geometry covers by their centres, or all that it touches.
+    fn find(&mut self, alloc: Global, frame: &Frame, g: &Geometry, touched: bool) -> Result<(), AllocError>
+        requires { IsFrame frame.now }
+        ensures cells { OnOk result (IsCover touched frame.now g.now self.new.runs) }
+        ensures inside { OnOk result (AreWithin frame.now.nrows frame.now.ncols self.new.runs) }
+    {
+        if touched {
+            touched_runs(alloc, frame, g, &mut self.touch, &mut self.runs)?;
+            return Ok(());
+        }
+        centre_runs(frame, g, &mut self.centre, &mut self.runs)?;
+        Ok(())
     }
 }
 
 // Burns a feature, unless it is skipped.
 fn burn_feature<T: Cell>(
+    alloc: Global,
     cells: &mut Grid<T>,
     frame: &Frame,
     value: &ValueFrom,
     strokes: &Strokes<T>,
     feature: &Feature,
-    scan: &mut CentreScan,
-    runs: &mut RunList,
+    scan: &mut Scan,
 ) -> Result<(), AllocError>
     requires frame { IsFrame frame.now }
     requires cols { cells.old.ncols ≡ frame.now.ncols }
@@ -133,9 +170,9 @@ fn burn_feature<T: Cell>(
     let Some((g, value)) = shape_of(value, feature) else {
         return Ok(());
     };
-    centre_runs(frame, g, scan, runs)?;
+    scan.find(alloc, frame, g, strokes.touched)?;
     let cell = strokes.one.unwrap_or(cell_of::<T>(value));
-    burn_runs(cells, runs, cell, strokes.how);
+    burn_runs(cells, &scan.runs, cell, strokes.how);
     Ok(())
 }
 
@@ -152,11 +189,10 @@ pub(crate) fn burned_cells<T: Cell>(
 {
     let strokes = strokes_of::<T>(job, features);
     let mut cells = Grid::make(alloc, frame.ncols, frame.nrows, strokes.initial)?;
-    let mut scan = CentreScan::new(alloc);
-    let mut runs = RunList::new(alloc);
+    let mut scan = Scan::new(alloc);
     'features: for feature in features {
         burn_feature(
-            &mut cells, frame, &job.value, &strokes, feature, &mut scan, &mut runs,
+            alloc, &mut cells, frame, &job.value, &strokes, feature, &mut scan,
         )?;
     }
     Ok(cells)

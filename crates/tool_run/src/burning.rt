@@ -181,7 +181,8 @@ fn write_burned<F: Folder>(
     }
 }
 
-/// Burns the polygons of the source's features into a grid. All touched cells (`-at`) aren't built yet.
+/// Burns the polygons of the source's features into a grid: on the cells that they cover by their centres, or with `-at` on all
+/// cells that they touch.
 ///
 /// A fault leaves the files as they were, or, where the job would have been done, a first part of the
 /// destination's bytes.
@@ -191,19 +192,11 @@ pub fn rasterize<F: Folder>(alloc: Global, job: &RasterizeJob, folder: &mut F) -
     ensures part { OnErr result (IfSome (F.state folder.old).files
         (λ files. LeavesPart (Job.Rasterize job.now) files (F.state folder.new).files)) }
 
-    // What isn't built is told by the job alone, before any file is touched.
-    ensures unbuilt { job.now.touched ≡ true → IsErrOf result Fault.NotBuilt }
-    ensures built { IsErrOf result Fault.NotBuilt → job.now.touched ≡ true }
-    ensures untouched { job.now.touched ≡ true → folder.new ≡ folder.old }
-
     // Each fault of the folder has its cause, and no call that failed is passed over.
     ensures causes { HasCauses (status_of result) (F.state folder.old) (F.state folder.new) }
     ensures read_same { status_of result ≡ Status.ReadFault → (F.state folder.new).files ≡ (F.state folder.old).files }
     ensures write_done { status_of result ≡ Status.WriteFault → IfSome (F.state folder.old).files (CanBeDone (Job.Rasterize job.now)) }
 {
-    if job.touched {
-        return Err(Fault::NotBuilt);
-    }
     let features = read_layer(alloc, folder, job.source.as_str(), field_of(&job.value))?;
     let frame = frame_of(job, &features)?;
     write_burned(alloc, folder, job, frame, &features)?;

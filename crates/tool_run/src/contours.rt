@@ -152,7 +152,6 @@ pub fn contour<F: Folder>(alloc: Global, job: &ContourJob, folder: &mut F) -> Re
         (λ files. Does (Job.Contour job.now) files result (F.state folder.new).files) }
     ensures part { OnErr result (IfSome (F.state folder.old).files
         (λ files. LeavesPart (Job.Contour job.now) files (F.state folder.new).files)) }
-    ensures built { ¬ IsErrOf result Fault.NotBuilt }
 
     // Each fault of the folder has its cause, and no call that failed is passed over.
     ensures causes { HasCauses (status_of result) (F.state folder.old) (F.state folder.new) }

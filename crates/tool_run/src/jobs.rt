@@ -1,7 +1,7 @@
 // The table of tools.
 ghost use Rattle.std.specs.Prelude.{◌≡◌, false, IfSome, IsErrOf, OnErr};
 ghost use Rattle.tool_outcome.specs.Message.{dest_of_job, source_of_job};
-ghost use Rattle.tool_outcome.specs.Outcome.{CanBeDone, Does, LeavesPart, is_built};
+ghost use Rattle.tool_outcome.specs.Outcome.{CanBeDone, Does, LeavesPart};
 ghost use Rattle.tool_outcome.specs.Status.{IsDecided, status_of};
 ghost use Rattle.tool_run.specs.Causes.{HasCauses};
 ghost use Rattle.tool_run.specs.Inner.Ranges.{HasInterval};
@@ -46,9 +46,6 @@ pub(crate) fn do_job<F: Folder>(alloc: Global, job: &Job, folder: &mut F) -> Res
         (λ files. Does job.now files result (F.state folder.new).files) }
     ensures part { OnErr result (IfSome (F.state folder.old).files
         (λ files. LeavesPart job.now files (F.state folder.new).files)) }
-    ensures unbuilt { is_built job.now ≡ false → IsErrOf result Fault.NotBuilt }
-    ensures built { IsErrOf result Fault.NotBuilt → is_built job.now ≡ false }
-    ensures untouched { is_built job.now ≡ false → folder.new ≡ folder.old }
     ensures causes { HasCauses (status_of result) (F.state folder.old) (F.state folder.new) }
     ensures read_same { status_of result ≡ Status.ReadFault → (F.state folder.new).files ≡ (F.state folder.old).files }
     ensures write_done { status_of result ≡ Status.WriteFault → IfSome (F.state folder.old).files (CanBeDone job.now) }

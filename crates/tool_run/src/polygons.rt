@@ -362,7 +362,6 @@ pub fn polygonize<F: Folder>(
         (λ files. Does (Job.Polygonize job.now) files result (F.state folder.new).files) }
     ensures part { OnErr result (IfSome (F.state folder.old).files
         (λ files. LeavesPart (Job.Polygonize job.now) files (F.state folder.new).files)) }
-    ensures built { ¬ IsErrOf result Fault.NotBuilt }
 
     // Each fault of the folder has its cause, and no call that failed is passed over.
     ensures causes { HasCauses (status_of result) (F.state folder.old) (F.state folder.new) }

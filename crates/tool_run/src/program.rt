@@ -1,9 +1,10 @@
 // The top call.
-ghost use Rattle.std.specs.Prelude.{◌≡◌, ◌≢◌, ◌⊎◌, IfSome, IsErr, List, ℕ};
+ghost use Rattle.std.specs.Prelude.{◌≡◌, ◌≢◌, IfSome, IsErr, List, ℕ};
 ghost use Rattle.tool_outcome.specs.Message.{IsLine, line_of_answer, line_of_grid, line_of_words};
-ghost use Rattle.tool_outcome.specs.Outcome.{AreUnbuilt, Meets, WordsCanBeDone, WordsLeavePart};
+ghost use Rattle.tool_outcome.specs.Outcome.{Meets, WordsCanBeDone, WordsLeavePart};
 ghost use Rattle.tool_outcome.specs.Status.{IsDecided, status_of, status_of_grid, status_of_kind, status_of_words};
 ghost use Rattle.tool_words.specs.Job.{job_of};
+ghost use Rattle.round_trip.specs.RoundTrip.{MakesRoundTrip};
 ghost use Rattle.tool_run.specs.Causes.{HasCauses};
 ghost use Rattle.tool_run.specs.Line.{SaysLine};
 
@@ -93,10 +94,6 @@ fn report<E: Sink>(source: &str, dest: &str, answer: Result<(), Fault>, err: &mu
             say_line(err, dest, ": write failed\n");
             Status::WriteFault
         }
-        Err(Fault::NotBuilt) => {
-            say_line(err, "", "not built\n");
-            Status::NotBuilt
-        }
         Err(Fault::NoMemory) => {
             say_line(err, "", "out of memory\n");
             Status::NoMemory
@@ -122,13 +119,14 @@ pub fn run<F: Folder, O: Sink, E: Sink>(
     ensures part { result ≢ Status.Done → IfSome (F.state folder.old).files
         (λ files. WordsLeavePart (job_of words.now) files (F.state folder.new).files) }
 
+    // The round trip: what was polygonized under side steps is burned back to the grid.
+    ensures round_trip { result ≡ Status.Done → IfSome (F.state folder.old).files
+        (λ files. IfSome (F.state folder.new).files (MakesRoundTrip (job_of words.now) files)) }
+
     // The words alone decide these, whatever the folder.
     ensures usage { IsErr (job_of words.now) → result ≡ Status.Usage }
     ensures not_usage { result ≡ Status.Usage → IsErr (job_of words.now) }
-    ensures not_built { AreUnbuilt (job_of words.now) → (result ≡ Status.NotBuilt) ⊎ (result ≡ Status.NoMemory) }
-    ensures built { result ≡ Status.NotBuilt → AreUnbuilt (job_of words.now) }
     ensures refused { IsErr (job_of words.now) → folder.new ≡ folder.old }
-    ensures untouched { AreUnbuilt (job_of words.now) → folder.new ≡ folder.old }
 
     // Each fault of the folder has its cause, and no call that failed is passed over.
     ensures causes { HasCauses result (F.state folder.old) (F.state folder.new) }

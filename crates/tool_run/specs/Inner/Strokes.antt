@@ -1,5 +1,5 @@
 -- How features are burned one after the other.
-use Rattle.std.specs.Prelude.{◌≡◌, ℕ, ℤ, ◌++◌, List, [], ◌∷◌, Option, Some, None, option_map, unwrap_or, Ok, Err, codes, decimal}
+use Rattle.std.specs.Prelude.{◌≡◌, ℕ, ℤ, ◌<◌, ◌++◌, Bool, List, [], ◌∷◌, Option, Some, None, option_map, unwrap_or, Ok, Err, codes, decimal}
 use Rattle.std.specs.declared.result.Result.{Result}
 use Rattle.std.specs.List.{filter_map}
 use Rattle.cell_base.specs.Clamped.{clamped}
@@ -11,13 +11,14 @@ use Rattle.geo_transform.specs.declared.frame.Frame.{Frame}
 use Rattle.ogr_csv.specs.declared.feature.Feature.{Feature}
 use Rattle.wkt_text.specs.declared.geometry.Geometry.{Geometry}
 use Rattle.burn_scanline.specs.Burned.{BurnedFeature, HoldsInside, burned, inside_value}
+use Rattle.burn_scanline.specs.Runs.{Run, is_in_runs}
 use Rattle.burn_scanline.specs.declared.burning.How.{How}
 use Rattle.tool_words.specs.declared.job.RasterizeJob.{RasterizeJob}
 use Rattle.tool_words.specs.declared.job.ValueFrom.{ValueFrom}
 use Rattle.tool_outcome.specs.Answer.{Answer}
 use Rattle.tool_outcome.specs.Features.{as_burned, burned_features}
 use Rattle.tool_outcome.specs.Message.{frame_text}
-use Rattle.tool_outcome.specs.Rasterize.{burned_value, held, least_of, most_of, of_layer, rasterize_text}
+use Rattle.tool_outcome.specs.Rasterize.{burned_value, covers_by, held, least_of, most_of, of_layer, rasterize_text}
 use Rattle.tool_outcome.specs.declared.fault.Fault.{Fault}
 use Rattle.tool_outcome.specs.declared.fault.Fault.TheVariants as fault
 use Rattle.tool_run.specs.declared.burned_cells.Strokes.{Strokes}
@@ -49,18 +50,22 @@ abbrev pub strokes_over : {T : Type 0} → (T → ℤ) → (ℤ → ℤ) → Val
 strokes_over units_of hold value strokes features =
     filter_map (λ f. option_map (stroke_of units_of strokes) (as_burned hold value f)) features
 
+-- of a frame's cells those in the runs are the ones that a geometry covers, or with `-at` those that it touches
+abbrev pub IsCover : Bool → Frame → Geometry → List Run → Type 0
+IsCover touched frame g runs = (p : Place) → p.0 < frame.nrows → p.1 < frame.ncols → is_in_runs runs p ≡ covers_by touched frame g p
+
 -- a feature more has been burned on cells that hold earlier ones
 abbrev pub AddsFeature : {T : Type 0} → (T → ℤ) → ℤ → ℤ → Frame → ValueFrom → Strokes T → Feature → Raster T → Raster T → Type 0
 AddsFeature units_of least greatest frame value strokes feature old new =
     (initial : ℤ) (earlier : List BurnedFeature)
-    → HoldsInside units_of least greatest strokes.how frame initial earlier old
-    → HoldsInside units_of least greatest strokes.how frame initial
+    → HoldsInside units_of least greatest strokes.how (covers_by strokes.touched) frame initial earlier old
+    → HoldsInside units_of least greatest strokes.how (covers_by strokes.touched) frame initial
     (earlier ++ strokes_over units_of (clamped least greatest) value strokes (feature ∷ [])) new
 
 -- the strokes leave what the job asks for
 abbrev pub AreStrokesOf : {T : Type 0} → (T → ℤ) → ℤ → ℤ → RasterizeJob → List Feature → Strokes T → Type 0
 AreStrokesOf units_of least greatest job features strokes = (frame : Frame) (cell : Place)
-    → inside_value least greatest strokes.how frame (units_of strokes.initial)
+    → inside_value least greatest strokes.how (covers_by strokes.touched) frame (units_of strokes.initial)
     (strokes_over units_of (clamped least greatest) job.value strokes features) cell
     ≡ burned_value job frame (burned_features (held job.kind) job.value features) cell
 

@@ -14,4 +14,4 @@ returns g c =
     let value : to_z w64 (of_z w64 c.in-Some.value) ≡ c.in-Some.value = grind (arith, common_steps) in
     let own = units_or cell.units_of strokes.one c.cell_of.result (clamped cell.least cell.greatest c.in-Some.value) (rw value at c.cell_of.ensures) in
     let is_cell : cell.units_of c.unwrap_or-cell.result ≡ unwrap_or (option_map cell.units_of strokes.one) (clamped cell.least cell.greatest c.in-Some.value) = ap cell.units_of c.unwrap_or-cell.ensures ∙ own in
-    adds_one cell.units_of cell.least cell.greatest c.args.frame.now c.args.value.now strokes c.args.feature.now shape c.unwrap_or-cell.result c.centre_runs.new.runs c.args.cells.now c.burn_runs.new.cells (c.in-Some.ensures (clamped cell.least cell.greatest)) is_cell c.in_ok-centre_runs.ensures.cells c.burn_runs.ensures
+    adds_one cell.units_of cell.least cell.greatest c.args.frame.now c.args.value.now strokes c.args.feature.now shape c.unwrap_or-cell.result c.find.new.self.runs c.args.cells.now c.burn_runs.new.cells (c.in-Some.ensures (clamped cell.least cell.greatest)) is_cell c.in_ok-find.ensures.cells c.burn_runs.ensures

@@ -2,7 +2,7 @@ use Rattle.std.proofs.Common.{◌∙◌, sym, subst}
 use Rattle.tool_outcome.specs.Message.{IsLine}
 use Rattle.tool_outcome.specs.Status.{status_of}
 use Rattle.tool_run.proofs.IntervalLemmas.{has_interval}
-use Rattle.tool_run.proofs.RunLemmas.{leaves_part, line_by, line_is, meets, refuses}
+use Rattle.tool_run.proofs.RunLemmas.{leaves_part, line_by, line_is, meets, not_done, refuses, round_trip}
 use Rattle.tool_run.proofs.program.run.Goals as goal
 
 pub do_job-answer-requires : goal.do_job-answer-requires
@@ -26,3 +26,14 @@ returns-clause-part g c = λ not_done.
 
 pub returns-in-Err-clause-outcome : goal.returns-in-Err-clause-outcome
 returns-in-Err-clause-outcome g c = refuses _ c.args.words.now c.in-Err.fault c.refuse.result _ _ (c.in-Err.ensures {u = tt}) c.refuse.ensures.status c.refuse.ensures.line
+
+pub returns-clause-round_trip : goal.returns-clause-round_trip
+returns-clause-round_trip g c =
+    let words = c.args.words.now in
+    let job = c.in-Ok.job in
+    let answer = c.do_job-answer.result in
+    let met = λ decided. meets (g.F.Folder.state c.args.folder.now).files words job answer _ c.in-Ok.ensures (c.do_job-answer.ensures.outcome decided) in
+    λ done. round_trip (g.F.Folder.state c.args.folder.now).files _ words (status_of answer) (line_by job answer) met (sym c.report.ensures.status ∙ done)
+
+pub returns-in-Err-clause-round_trip : goal.returns-in-Err-clause-round_trip
+returns-in-Err-clause-round_trip g c = λ done. absurd (not_done c.in-Err.fault (sym c.refuse.ensures.status ∙ done))
