@@ -73,7 +73,8 @@ fn shape_of<'a>(value: &ValueFrom, feature: &'a Feature) -> Option<(&'a Geometry
 
 // The cell of the first feature that isn't skipped, if there is one.
 fn first_cell<T: Cell>(value: &ValueFrom, features: &[Feature]) -> Option<T>
-    ensures { option_map T.units_of result ≡ first_value (burned_features (clamped T.least T.greatest) value.now features.now) }
+    ensures { option_map T.units_of result ≡ first_value
+        (burned_features (clamped T.least T.greatest) value.now features.now) }
 {
     'features: for feature in features {
         if let Some((_, value)) = shape_of(value, feature) {
@@ -85,7 +86,8 @@ fn first_cell<T: Cell>(value: &ValueFrom, features: &[Feature]) -> Option<T>
 
 // What is burned outside, if anything is.
 fn outside_of<T: Cell>(value: &ValueFrom, features: &[Feature]) -> Option<T>
-    ensures { option_map T.units_of result ≡ outside_of (clamped T.least T.greatest) value.now (burned_features (clamped T.least T.greatest) value.now features.now) }
+    ensures { option_map T.units_of result ≡ outside_of (clamped T.least T.greatest) value.now
+        (burned_features (clamped T.least T.greatest) value.now features.now) }
 {
     match value {
         ValueFrom::Burn(value) => Some(cell_of::<T>(*value)),
@@ -165,7 +167,8 @@ fn burn_feature<T: Cell>(
     requires frame { IsFrame frame.now }
     requires cols { cells.old.ncols ≡ frame.now.ncols }
     requires rows { cells.old.nrows ≡ frame.now.nrows }
-    ensures { OnOk result (AddsFeature T.units_of T.least T.greatest frame.now value.now strokes.now feature.now cells.old cells.new) }
+    ensures { OnOk result (AddsFeature T.units_of T.least T.greatest frame.now value.now strokes.now feature.now
+        cells.old cells.new) }
 {
     let Some((g, value)) = shape_of(value, feature) else {
         return Ok(());
@@ -185,7 +188,8 @@ pub(crate) fn burned_cells<T: Cell>(
 ) -> Result<Grid<T>, AllocError>
     requires kind { IsKind T.least T.greatest T.PLACES job.now.kind }
     requires frame { IsFrame frame.now }
-    ensures { IfOk result (HoldsValues T.units_of frame.now (burned_value job.now frame.now (burned_features (held job.now.kind) job.now.value features.now))) }
+    ensures { IfOk result (HoldsValues T.units_of frame.now
+        (burned_value job.now frame.now (burned_features (held job.now.kind) job.now.value features.now))) }
 {
     let strokes = strokes_of::<T>(job, features);
     let mut cells = Grid::make(alloc, frame.ncols, frame.nrows, strokes.initial)?;

@@ -195,7 +195,8 @@ pub fn rasterize<F: Folder>(alloc: Global, job: &RasterizeJob, folder: &mut F) -
     // Each fault of the folder has its cause, and no call that failed is passed over.
     ensures causes { HasCauses (status_of result) (F.state folder.old) (F.state folder.new) }
     ensures read_same { status_of result ≡ Status.ReadFault → (F.state folder.new).files ≡ (F.state folder.old).files }
-    ensures write_done { status_of result ≡ Status.WriteFault → IfSome (F.state folder.old).files (CanBeDone (Job.Rasterize job.now)) }
+    ensures write_done { status_of result ≡ Status.WriteFault → IfSome (F.state folder.old).files
+        (CanBeDone (Job.Rasterize job.now)) }
 {
     let features = read_layer(alloc, folder, job.source.as_str(), field_of(&job.value))?;
     let frame = frame_of(job, &features)?;
