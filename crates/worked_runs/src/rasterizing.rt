@@ -192,8 +192,70 @@ const BURNED: [(&[&str], &[u8], &[u8]); 18] = [
     ),
 ];
 
+// Half of a square of nine cells, cut along its diagonal.
+const TRIANGLE: &[u8] = b"WKT\n\"POLYGON ((0 0,3 0,0 3,0 0))\"\n";
+
+// Over no centre, and within the second cell but for a corner of it.
+const SLIVER: &[u8] = b"WKT\n\"POLYGON ((1 0,1.1 0.3,1.2 0.2,1 0))\"\n";
+
+// Options with `-at` and without, a source, and what is written of it.
+const TOUCHED: [(&[&str], &[u8], &[u8]); 8] = [
+    (
+        &["-burn", "1", "-te", "0", "0", "3", "3", "-ts", "3", "3"],
+        TRIANGLE,
+        b"ncols 3\nnrows 3\nxllcorner 0\nyllcorner 0\ncellsize 1\n0 0 0\n1 0 0\n1 1 0\n",
+    ),
+    (
+        &[
+            "-burn", "1", "-at", "-te", "0", "0", "3", "3", "-ts", "3", "3",
+        ],
+        TRIANGLE,
+        b"ncols 3\nnrows 3\nxllcorner 0\nyllcorner 0\ncellsize 1\n1 0 0\n1 1 0\n1 1 1\n",
+    ),
+    (
+        &[
+            "-burn", "1", "-at", "-i", "-te", "0", "0", "3", "3", "-ts", "3", "3",
+        ],
+        TRIANGLE,
+        b"ncols 3\nnrows 3\nxllcorner 0\nyllcorner 0\ncellsize 1\n0 1 1\n0 0 1\n0 0 0\n",
+    ),
+    (
+        &[
+            "-burn", "1", "-at", "-te", "0", "0", "3", "3", "-ts", "3", "3",
+        ],
+        SQUARE,
+        b"ncols 3\nnrows 3\nxllcorner 0\nyllcorner 0\ncellsize 1\n1 1 1\n1 1 1\n1 1 1\n",
+    ),
+    // along the edges of cells all touched is the centre rule
+    (
+        &[
+            "-a", "DN", "-at", "-te", "0", "0", "4", "4", "-ts", "4", "4", "-init", "0",
+        ],
+        TWO_HOLES,
+        b"ncols 4\nnrows 4\nxllcorner 0\nyllcorner 0\ncellsize 1\n1 1 1 1\n1 2 1 1\n1 1 2 1\n1 1 1 1\n",
+    ),
+    // a cell is added to once, however many edges meet it
+    (
+        &["-a", "v", "-at", "-add", "-ot", "Byte", "-ts", "3", "3"],
+        OVERLAP,
+        b"ncols 3\nnrows 3\nxllcorner 0\nyllcorner 0\ncellsize 1\n0 100 100\n200 255 100\n200 200 0\n",
+    ),
+    (
+        &[
+            "-burn", "1", "-at", "-add", "-te", "0", "0", "3", "1", "-ts", "3", "1",
+        ],
+        SLIVER,
+        b"ncols 3\nnrows 1\nxllcorner 0\nyllcorner 0\ncellsize 1\n0 1 0\n",
+    ),
+    (
+        &["-burn", "1", "-te", "0", "0", "3", "1", "-ts", "3", "1"],
+        SLIVER,
+        b"ncols 3\nnrows 1\nxllcorner 0\nyllcorner 0\ncellsize 1\n0 0 0\n",
+    ),
+];
+
 // Options, a source that is refused, the status and the line.
-const REFUSED: [(&[&str], &[u8], Status, &[u8]); 24] = [
+const REFUSED: [(&[&str], &[u8], Status, &[u8]); 23] = [
     (
         &["-a", "DN", "-te", "0", "0", "1", "1", "-ts", "1", "1"],
         b"WKT,DN\n\"POLYGON ((0 0,1 0,1 1,0 1,0 0))\",1\n,7\n\"POLYGON ((0 0,1 0,1 1,0 1))\",2\n",
@@ -341,13 +403,6 @@ const REFUSED: [(&[&str], &[u8], Status, &[u8]); 24] = [
         Status::BadInput,
         b"in.csv: record 1: short ring at byte 22\n",
     ),
-    // all touched isn't built, whatever the source
-    (
-        &["-burn", "1", "-at", "-ts", "1", "1"],
-        b"",
-        Status::NotBuilt,
-        b"not built\n",
-    ),
     // without an extent no frame is made
     (
         &["-burn", "1", "-ts", "5000", "5000"],
@@ -378,21 +433,33 @@ fn folder_with(alloc: Global, source: &[u8]) -> Result<MemoryFolder, AllocError>
 
 const WORDS: [&str; 3] = ["gdal_rasterize", "in.csv", "out.asc"];
 
+// The words are obeyed, and this is what they write.
+fn writes(alloc: Global, options: &[&str], source: &[u8], dest: &[u8]) -> Result<bool, Fail> {
+    let ran = run_with(
+        alloc,
+        &WORDS,
+        options,
+        folder_with(alloc, source)?,
+        MemorySink::new(alloc),
+    )?;
+    Ok(ran.status == Status::Done
+        && ran.has("out.asc", Some(dest))
+        && ran.has("in.csv", Some(source))
+        && ran.said(b""))
+}
+
 #[test]
 fn polygons_are_burned(rt: HostRuntime) -> Result<(), Fail> {
-    let alloc = rt.alloc();
     for (options, source, dest) in BURNED {
-        let ran = run_with(
-            alloc,
-            &WORDS,
-            options,
-            folder_with(alloc, source)?,
-            MemorySink::new(alloc),
-        )?;
-        assert_eq!(rt; ran.status, Status::Done);
-        assert!(rt; ran.has("out.asc", Some(dest)));
-        assert!(rt; ran.has("in.csv", Some(source)));
-        assert!(rt; ran.said(b""));
+        assert!(rt; writes(rt.alloc(), options, source, dest)?);
+    }
+    Ok(())
+}
+
+#[test]
+fn cells_that_polygons_touch_are_burned(rt: HostRuntime) -> Result<(), Fail> {
+    for (options, source, dest) in TOUCHED {
+        assert!(rt; writes(rt.alloc(), options, source, dest)?);
     }
     Ok(())
 }

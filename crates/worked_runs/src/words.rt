@@ -1,4 +1,4 @@
-// Words that are refused, jobs that are not built and sources that are missing.
+// Words that are refused, and a source that is missing.
 use crate::running::{GRID, folder_with, run_over};
 use std::test::Fail;
 use tool_run::Status;
@@ -95,36 +95,13 @@ fn the_first_fault_of_the_words_is_told(rt: HostRuntime) -> Result<(), Fail> {
 }
 
 #[test]
-fn jobs_that_are_not_built_and_files_that_are_missing(rt: HostRuntime) -> Result<(), Fail> {
+fn a_source_that_is_missing_is_told(rt: HostRuntime) -> Result<(), Fail> {
     let alloc = rt.alloc();
-    let examples: [(&[&str], Status, &[u8]); 2] = [
-        (
-            &[
-                "gdal_rasterize",
-                "-burn",
-                "1",
-                "-at",
-                "-ts",
-                "1",
-                "1",
-                "src.asc",
-                "dst.asc",
-            ],
-            Status::NotBuilt,
-            b"not built\n",
-        ),
-        (
-            &["gdal_sieve", "-st", "1", "nosuch.asc", "dst.asc"],
-            Status::Missing,
-            b"nosuch.asc: no such file\n",
-        ),
-    ];
-    for (words, status, line) in examples {
-        let ran = run_over(alloc, words, folder_with(alloc, GRID)?)?;
-        assert_eq!(rt; ran.status, status);
-        assert!(rt; ran.said(line));
-        assert!(rt; ran.has("src.asc", Some(GRID)));
-        assert!(rt; ran.has("dst.asc", None));
-    }
+    let words = ["gdal_sieve", "-st", "1", "nosuch.asc", "dst.asc"];
+    let ran = run_over(alloc, &words, folder_with(alloc, GRID)?)?;
+    assert_eq!(rt; ran.status, Status::Missing);
+    assert!(rt; ran.said(b"nosuch.asc: no such file\n"));
+    assert!(rt; ran.has("src.asc", Some(GRID)));
+    assert!(rt; ran.has("dst.asc", None));
     Ok(())
 }
