@@ -4,3 +4,4 @@ pub mod ColumnLemmas
 pub mod StretchLemmas
 pub mod PieceLemmas
 pub mod UniteLemmas
+pub mod AlongLemmas
