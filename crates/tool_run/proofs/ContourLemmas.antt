@@ -62,6 +62,10 @@ refused_by job asc fault.NoMemory many decided = absurd decided
 refused_by job asc (fault.Missing role) many decided = absurd many
 refused_by job asc (fault.ReadFault role) many decided = absurd many
 refused_by job asc (fault.Grid role offence) many decided = absurd many
+refused_by job asc (fault.Layer offence) many decided = absurd many
+refused_by job asc (fault.NotPolygon number) many decided = absurd many
+refused_by job asc fault.NoExtent many decided = absurd many
+refused_by job asc (fault.Frame offence) many decided = absurd many
 refused_by job asc fault.WriteFault many decided = absurd many
 
 -- the grid was read, and asks for too many levels

@@ -1,8 +1,6 @@
 -- What a run tells of the answer of its tool.
-use Rattle.std.proofs.Common.{◌≡◌, ◌≢◌, ◌∙◌, ap, ℕ, List, Option, Some, None, Result, Ok, Err, IfSome, OnErr, refl, sym, subst}
+use Rattle.std.proofs.Common.{◌≡◌, ◌≢◌, ◌∙◌, ap, ℕ, List, [], Option, Some, None, Result, Ok, Err, IfSome, OnErr, refl, sym, subst}
 use Rattle.rv_outside.specs.Files.{Files, with_file}
-use Rattle.round_trip.specs.RoundTrip.{MakesRoundTrip}
-use Rattle.round_trip.proofs.LawLemmas.{makes_round_trip}
 use Rattle.rv_outside.specs.Sink.{SinkState}
 use Rattle.asc_grid.specs.declared.fault.GridKind.{GridKind}
 use Rattle.asc_grid.specs.declared.fault.GridKind.TheVariants.{UnknownKeyword, RepeatedKeyword, MissingKeyword, BadNumber, OutOfRange, TooLarge, BadCell, TooFewCells, TooManyCells}
@@ -24,6 +22,8 @@ use Rattle.tool_outcome.specs.declared.fault.Fault.TheVariants as fault
 use Rattle.tool_outcome.specs.declared.fault.Role.{Role}
 use Rattle.tool_outcome.specs.declared.status.Status.{Status}
 use Rattle.tool_outcome.specs.declared.status.Status.TheVariants.{Done}
+use Rattle.round_trip.specs.RoundTrip.{MakesRoundTrip}
+use Rattle.round_trip.proofs.LawLemmas.{makes_round_trip}
 use Rattle.tool_run.specs.Line.{SaysLine}
 
 -- the answer of a job, as its line

@@ -140,7 +140,13 @@ impl Scan {
     }
 
     // Finds the cells that a geometry covers by their centres, or all that it touches.
-    fn find(&mut self, alloc: Global, frame: &Frame, g: &Geometry, touched: bool) -> Result<(), AllocError>
+    fn find(
+        &mut self,
+        alloc: Global,
+        frame: &Frame,
+        g: &Geometry,
+        touched: bool,
+    ) -> Result<(), AllocError>
         requires { IsFrame frame.now }
         ensures cells { OnOk result (IsCover touched frame.now g.now self.new.runs) }
         ensures inside { OnOk result (AreWithin frame.now.nrows frame.now.ncols self.new.runs) }

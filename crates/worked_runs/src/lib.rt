@@ -16,6 +16,8 @@ mod polygonizing;
 #[cfg(test)]
 mod rasterizing;
 #[cfg(test)]
+mod round_trip;
+#[cfg(test)]
 mod running;
 #[cfg(test)]
 mod sieving;

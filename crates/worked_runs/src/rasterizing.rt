@@ -442,10 +442,12 @@ fn writes(alloc: Global, options: &[&str], source: &[u8], dest: &[u8]) -> Result
         folder_with(alloc, source)?,
         MemorySink::new(alloc),
     )?;
-    Ok(ran.status == Status::Done
-        && ran.has("out.asc", Some(dest))
-        && ran.has("in.csv", Some(source))
-        && ran.said(b""))
+    Ok(
+        ran.status == Status::Done
+            && ran.has("out.asc", Some(dest))
+            && ran.has("in.csv", Some(source))
+            && ran.said(b""),
+    )
 }
 
 #[test]

@@ -23,6 +23,10 @@ impl Ran {
         self.folder.file(name) == bytes
     }
 
+    pub fn into_folder(self) -> MemoryFolder {
+        self.folder
+    }
+
     pub fn said(&self, line: &[u8]) -> bool {
         self.err.bytes() == line && self.out.bytes().is_empty()
     }

@@ -4,16 +4,16 @@ ghost use Rattle.cell_base.specs.Raster.{IsRaster, Raster};
 ghost use Rattle.geo_transform.specs.Frame.{IsFrame};
 ghost use Rattle.geo_transform.specs.declared.frame.Frame.{Frame as FrameNumbers};
 
+use crate::making::{coordinate, frame, geometry};
 use burn_scanline::{
     CentreScan, EdgeRows, How, RunList, SpanRule, burn, burn_runs, centre_runs, cover_centre,
     mark_runs,
 };
 use cell_base::{Cell, Grid, Mask, Run};
-use fixed_coord::Coord;
 use geo_transform::Frame;
 use std::alloc::{AllocError, Global};
 use std::test::Fail;
-use wkt_text::{Geometry, Path, Pt, Rings, read_geometry};
+use wkt_text::{Geometry, Path, Pt, Rings};
 
 /// A square from 0.5 to 2.5: the sides run through the centres of cells of size 1.
 const THROUGH_CENTRES: &str = "POLYGON ((0.5 0.5,2.5 0.5,2.5 2.5,0.5 2.5,0.5 0.5))";
@@ -22,31 +22,6 @@ const THROUGH_CENTRES: &str = "POLYGON ((0.5 0.5,2.5 0.5,2.5 2.5,0.5 2.5,0.5 0.5
 const LOWER: &str = "POLYGON ((0 0,2 0,2 2,0 2,0 0))";
 
 const UPPER: &str = "POLYGON ((1 1,3 1,3 3,1 3,1 1))";
-
-fn coordinate(text: &str) -> Result<Coord, Fail> {
-    Ok(Coord::read(text.as_bytes()).ok().ok_or("a coordinate")?)
-}
-
-/// So many columns and rows of cells of a size, from a lower left corner.
-fn frame(ncols: u32, nrows: u32, xll: &str, yll: &str, cell: &str) -> Result<Frame, Fail>
-    ensures { IfOk result IsFrame }
-{
-    let xll = coordinate(xll)?;
-    let yll = coordinate(yll)?;
-    let cell = coordinate(cell)?;
-    match Frame::make(ncols, nrows, xll, yll, cell) {
-        Ok(frame) => Ok(frame),
-        Err(_) => Err("a frame".into()),
-    }
-}
-
-fn geometry(alloc: Global, text: &str) -> Result<Geometry, Fail> {
-    Ok(
-        read_geometry(alloc, text.as_bytes())
-            .ok()
-            .ok_or("a geometry")?,
-    )
-}
 
 /// A grid of zeros of a frame's size.
 fn zeros<T: Cell>(alloc: Global, frame: &Frame) -> Result<Grid<T>, AllocError>
@@ -278,6 +253,22 @@ fn edges_by_rows(rt: HostRuntime) -> Result<(), Fail> {
         }
         starts.sort_unstable();
         assert!(rt; starts.as_slice() == &[0, 1][..count]);
+    }
+    Ok(())
+}
+
+#[test]
+fn edges_by_strips(rt: HostRuntime) -> Result<(), Fail> {
+    let frame = frame(3, 3, "0", "0", "1")?;
+    let g = geometry(rt.alloc(), THROUGH_CENTRES)?;
+    let edges = EdgeRows::build(rt.alloc(), &frame, &g, SpanRule::Strip)?;
+    assert!(rt; edges.count() == 4);
+    for (row, count) in [(0, 3), (1, 0), (2, 1)] {
+        let mut starts = 0;
+        for _ in edges.starting(row) {
+            starts += 1;
+        }
+        assert_eq!(rt; starts, count);
     }
     Ok(())
 }

@@ -32,8 +32,9 @@ returns-clause-round_trip g c =
     let words = c.args.words.now in
     let job = c.in-Ok.job in
     let answer = c.do_job-answer.result in
-    let met = λ decided. meets (g.F.Folder.state c.args.folder.now).files words job answer _ c.in-Ok.ensures (c.do_job-answer.ensures.outcome decided) in
-    λ done. round_trip (g.F.Folder.state c.args.folder.now).files _ words (status_of answer) (line_by job answer) met (sym c.report.ensures.status ∙ done)
+    λ done. round_trip (g.F.Folder.state c.args.folder.now).files _ words (status_of answer) (line_by job answer)
+    (λ decided. meets (g.F.Folder.state c.args.folder.now).files words job answer _ c.in-Ok.ensures (c.do_job-answer.ensures.outcome decided))
+    (sym c.report.ensures.status ∙ done)
 
 pub returns-in-Err-clause-round_trip : goal.returns-in-Err-clause-round_trip
 returns-in-Err-clause-round_trip g c = λ done. absurd (not_done c.in-Err.fault (sym c.refuse.ensures.status ∙ done))
