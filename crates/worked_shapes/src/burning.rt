@@ -1,10 +1,8 @@
 // Burned polygons. Expected cells are worked out by hand from the cells' centres.
-ghost use Rattle.std.specs.Prelude.{◌≡◌, IfOk};
-ghost use Rattle.cell_base.specs.Raster.{IsRaster, Raster};
+ghost use Rattle.std.specs.Prelude.{◌≡◌};
 ghost use Rattle.geo_transform.specs.Frame.{IsFrame};
-ghost use Rattle.geo_transform.specs.declared.frame.Frame.{Frame as FrameNumbers};
 
-use crate::making::{coordinate, frame, geometry};
+use crate::making::{coordinate, frame, geometry, holds, zeros};
 use burn_scanline::{
     CentreScan, EdgeRows, How, RunList, SpanRule, burn, burn_runs, centre_runs, cover_centre,
     mark_runs,
@@ -22,29 +20,6 @@ const THROUGH_CENTRES: &str = "POLYGON ((0.5 0.5,2.5 0.5,2.5 2.5,0.5 2.5,0.5 0.5
 const LOWER: &str = "POLYGON ((0 0,2 0,2 2,0 2,0 0))";
 
 const UPPER: &str = "POLYGON ((1 1,3 1,3 3,1 3,1 1))";
-
-/// A grid of zeros of a frame's size.
-fn zeros<T: Cell>(alloc: Global, frame: &Frame) -> Result<Grid<T>, AllocError>
-    requires { IsFrame frame.now }
-    ensures cols { IfOk result (λ (cells : Raster T). cells.ncols ≡ frame.now.ncols) }
-    ensures rows { IfOk result (λ (cells : Raster T). cells.nrows ≡ frame.now.nrows) }
-{
-    Grid::make(alloc, frame.ncols, frame.nrows, T::clamp_from(0))
-}
-
-/// Whether the cells are these, row after row.
-fn holds<T: Cell>(cells: &Grid<T>, want: &[i64]) -> bool {
-    let mut at = 0;
-    for row in 0..cells.nrows() {
-        for cell in cells.row(row) {
-            if want.get(at).copied() != Some(cell.units()) {
-                return false;
-            }
-            at += 1;
-        }
-    }
-    at == want.len()
-}
 
 /// Burns a polygon by its runs.
 fn burn_text<T: Cell>(
@@ -264,11 +239,11 @@ fn edges_by_strips(rt: HostRuntime) -> Result<(), Fail> {
     let edges = EdgeRows::build(rt.alloc(), &frame, &g, SpanRule::Strip)?;
     assert!(rt; edges.count() == 4);
     for (row, count) in [(0, 3), (1, 0), (2, 1)] {
-        let mut starts = 0;
-        for _ in edges.starting(row) {
-            starts += 1;
+        let mut starts = Vec::new(rt.alloc());
+        for e in edges.starting(row) {
+            starts.push(e)?;
         }
-        assert_eq!(rt; starts, count);
+        assert!(rt; starts.len() == count);
     }
     Ok(())
 }

@@ -1,10 +1,12 @@
-// Coordinates, frames and geometries of worked examples.
-ghost use Rattle.std.specs.Prelude.{IfOk};
+// Coordinates, frames, geometries and grids of worked examples.
+ghost use Rattle.std.specs.Prelude.{◌≡◌, IfOk};
+ghost use Rattle.cell_base.specs.Raster.{Raster};
 ghost use Rattle.geo_transform.specs.Frame.{IsFrame};
 
+use cell_base::{Cell, Grid};
 use fixed_coord::Coord;
 use geo_transform::Frame;
-use std::alloc::Global;
+use std::alloc::{AllocError, Global};
 use std::test::Fail;
 use wkt_text::{Geometry, read_geometry};
 
@@ -31,4 +33,27 @@ pub fn geometry(alloc: Global, text: &str) -> Result<Geometry, Fail> {
             .ok()
             .ok_or("a geometry")?,
     )
+}
+
+/// A grid of zeros of a frame's size.
+pub fn zeros<T: Cell>(alloc: Global, frame: &Frame) -> Result<Grid<T>, AllocError>
+    requires { IsFrame frame.now }
+    ensures cols { IfOk result (λ (cells : Raster T). cells.ncols ≡ frame.now.ncols) }
+    ensures rows { IfOk result (λ (cells : Raster T). cells.nrows ≡ frame.now.nrows) }
+{
+    Grid::make(alloc, frame.ncols, frame.nrows, T::clamp_from(0))
+}
+
+/// Whether the cells are these, row after row.
+pub fn holds<T: Cell>(cells: &Grid<T>, want: &[i64]) -> bool {
+    let mut at = 0;
+    for row in 0..cells.nrows() {
+        for cell in cells.row(row) {
+            if want.get(at).copied() != Some(cell.units()) {
+                return false;
+            }
+            at += 1;
+        }
+    }
+    at == want.len()
 }

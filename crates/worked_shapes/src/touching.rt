@@ -1,71 +1,73 @@
 // Touched cells. Expected cells are worked out by hand from the open squares of the cells that edges meet.
-use crate::making::{frame, geometry};
+ghost use Rattle.geo_transform.specs.Frame.{IsFrame};
+
+use crate::making::{frame, geometry, holds, zeros};
 use all_touched::{TouchScan, cover_touched, touched_runs};
-use burn_scanline::RunList;
-use cell_base::{Mask, Run};
+use burn_scanline::{How, RunList, burn};
+use cell_base::{Grid, Mask, Run};
+use geo_transform::Frame;
+use std::alloc::Global;
 use std::test::Fail;
 
 // Polygons, and of three rows of three cells of size 1 those that each touches.
-const TOUCHED: [(&str, [[bool; 3]; 3]); 9] = [
+const TOUCHED: [(&str, [i64; 9]); 9] = [
     // through the centres
     (
         "POLYGON ((0.5 0.5,2.5 0.5,2.5 2.5,0.5 2.5,0.5 0.5))",
-        [[true; 3]; 3],
+        [1, 1, 1, 1, 1, 1, 1, 1, 1],
     ),
     // along sides: the neighbours aren't touched
     (
         "POLYGON ((1 1,2 1,2 2,1 2,1 1))",
-        [[false; 3], [false, true, false], [false; 3]],
+        [0, 0, 0, 0, 1, 0, 0, 0, 0],
     ),
     // through corners
-    (
-        "POLYGON ((0 0,3 0,0 3,0 0))",
-        [[true, false, false], [true, true, false], [true; 3]],
-    ),
-    // with a corner in a corner of other cells
+    ("POLYGON ((0 0,3 0,0 3,0 0))", [1, 0, 0, 1, 1, 0, 1, 1, 1]),
+    // with a point in a corner of other cells
     (
         "POLYGON ((1 1,0.5 0.9,0.9 0.5,1 1))",
-        [[false; 3], [false; 3], [true, false, false]],
+        [0, 0, 0, 0, 0, 0, 1, 0, 0],
     ),
     // flat and level, flat and upright
     (
         "POLYGON ((0.2 0.5,2.2 0.5,1 0.5,0.2 0.5))",
-        [[false; 3], [false; 3], [true; 3]],
+        [0, 0, 0, 0, 0, 0, 1, 1, 1],
     ),
     (
         "POLYGON ((0.5 0.2,0.5 2.2,0.5 1,0.5 0.2))",
-        [
-            [true, false, false],
-            [true, false, false],
-            [true, false, false],
-        ],
+        [1, 0, 0, 1, 0, 0, 1, 0, 0],
     ),
     // a point alone: its edges have no length
     (
         "POLYGON ((0.2 0.2,0.2 0.2,0.2 0.2,0.2 0.2))",
-        [[false; 3]; 3],
+        [0, 0, 0, 0, 0, 0, 0, 0, 0],
     ),
-    // with a hole that covers a centre: the hole's edges are met
+    // the edges of a hole round a centre
     (
         "POLYGON ((0 0,3 0,3 3,0 3,0 0),(1.2 1.2,1.8 1.2,1.8 1.8,1.2 1.8,1.2 1.2))",
-        [[true; 3]; 3],
+        [1, 1, 1, 1, 1, 1, 1, 1, 1],
     ),
-    ("POINT (0.5 0.5)", [[false; 3]; 3]),
+    ("POINT (0.5 0.5)", [0, 0, 0, 0, 0, 0, 0, 0, 0]),
 ];
+
+/// A grid with 1 in the cells that a polygon touches, and else 0.
+fn touched(alloc: Global, frame: &Frame, text: &str) -> Result<Grid<u8>, Fail>
+    requires { IsFrame frame.now }
+{
+    let g = geometry(alloc, text)?;
+    let mut cover = Mask::make(alloc, frame.ncols, frame.nrows, true)?;
+    let mut cells = zeros::<u8>(alloc, frame)?;
+    cover_touched(alloc, frame, &g, &mut cover)?;
+    burn(&mut cells, &cover, 1, How::Set);
+    Ok(cells)
+}
 
 #[test]
 fn touched_cells(rt: HostRuntime) -> Result<(), Fail> {
-    let alloc = rt.alloc();
     let frame = frame(3, 3, "0", "0", "1")?;
     for (text, want) in TOUCHED {
-        let g = geometry(alloc, text)?;
-        let mut cover = Mask::make(alloc, frame.ncols, frame.nrows, true)?;
-        cover_touched(alloc, &frame, &g, &mut cover)?;
-        for row in 0..3 {
-            for col in 0..3 {
-                assert!(rt; cover.get(row, col) == want[row as usize][col as usize]);
-            }
-        }
+        let cells = touched(rt.alloc(), &frame, text)?;
+        assert!(rt; holds(&cells, &want));
     }
     Ok(())
 }
