@@ -4,6 +4,8 @@
 #![tactic(auto)]
 
 #[cfg(test)]
+mod comes_back;
+#[cfg(test)]
 mod contouring;
 #[cfg(test)]
 mod disk;
@@ -15,8 +17,6 @@ mod grids;
 mod polygonizing;
 #[cfg(test)]
 mod rasterizing;
-#[cfg(test)]
-mod round_trip;
 #[cfg(test)]
 mod running;
 #[cfg(test)]
