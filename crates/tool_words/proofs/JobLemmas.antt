@@ -2,7 +2,7 @@
 use Rattle.std.proofs.Common.{◌≡◌, ◌∙◌, List, Some, drop, ap}
 use Rattle.std.specs.Prelude.{codes, slice_get}
 use Rattle.tool_words.specs.Words.{Text}
-use Rattle.tool_words.specs.Job.{contour_words, job_of, rasterize_words, words_of_tool}
+use Rattle.tool_words.specs.Job.{check_words, contour_words, job_of, rasterize_words, words_of_tool}
 use Rattle.tool_words.proofs.CutLemmas.{word_at}
 
 by_name : (words : List Text) (tool name : Text) → slice_get words 0 ≡ Some tool → tool ≡ name → job_of words ≡ words_of_tool name (drop 1 words)
@@ -13,3 +13,6 @@ of_rasterize words tool first is = by_name words tool (codes "gdal_rasterize") f
 
 pub of_contour : (words : List Text) (tool : Text) → slice_get words 0 ≡ Some tool → tool ≡ codes "gdal_contour" → job_of words ≡ contour_words (drop 1 words)
 of_contour words tool first is = by_name words tool (codes "gdal_contour") first is
+
+pub of_check : (words : List Text) (tool : Text) → slice_get words 0 ≡ Some tool → tool ≡ codes "check" → job_of words ≡ check_words (drop 1 words)
+of_check words tool first is = by_name words tool (codes "check") first is

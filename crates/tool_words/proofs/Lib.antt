@@ -5,3 +5,5 @@ pub mod ReadLemmas
 pub mod OffenceLemmas
 pub mod JobLemmas
 pub mod ExtentLemmas
+pub mod NameLemmas
+pub mod FitLemmas

@@ -5,7 +5,7 @@ use Rattle.std.specs.Option.{option_or}
 use Rattle.tool_words.specs.Words.{Text, is_option}
 use Rattle.tool_words.specs.Grammar.{Form, Grammar, Piece, Takes, each, numbers, names_of, pieces_of, takes_of, value_at}
 use Rattle.tool_words.specs.Offence.{first_fault, first_wrong, unfit_value, wrong_end, wrong_form, wrong_piece, wrong_values}
-use Rattle.tool_words.specs.Job.{IsAnswer, job_by}
+use Rattle.tool_words.specs.Job.{IsAnswer, job_by, unless}
 use Rattle.tool_words.specs.declared.job.Job.{Job}
 use Rattle.tool_words.specs.declared.fault.WordFault.{WordFault}
 use Rattle.tool_words.specs.declared.fault.WordFault.TheVariants.{At, NoMemory}
@@ -65,3 +65,12 @@ pub refuses : (grammar : Grammar) (clash : List Piece → Bool) (job : List Piec
 refuses grammar clash job words fault is =
     let has : HasPlace fault = subst (λ f. IfSome f HasPlace) is (fault_places grammar (clash (pieces_of grammar words)) words) in
     with_place (job_by grammar clash job words) fault (rw is refl) has
+
+by_fault : (fault : Option WordFault) (job : Job) → HavePlaces fault → IsAnswer (unless fault job) (unless fault job)
+by_fault None job places = refl
+by_fault (Some fault) job places = with_place (Err fault) fault refl places
+
+-- the job of words, or their first fault, is an answer
+pub answers : (grammar : Grammar) (clash : List Piece → Bool) (job : List Piece → Job) (words : List Text) → IsAnswer (job_by grammar clash job words) (job_by grammar clash job words)
+answers grammar clash job words =
+    by_fault (first_fault grammar (clash (pieces_of grammar words)) words) (job (pieces_of grammar words)) (fault_places grammar (clash (pieces_of grammar words)) words)

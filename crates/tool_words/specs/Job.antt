@@ -9,11 +9,12 @@ use Rattle.tool_words.specs.Sieve.{sieve_grammar, sieve_job}
 use Rattle.tool_words.specs.Polygonize.{polygonize_grammar, polygonize_job}
 use Rattle.tool_words.specs.Rasterize.{rasterize_grammar, rasterize_chooses, rasterize_clash, rasterize_default, rasterize_job}
 use Rattle.tool_words.specs.Contour.{contour_grammar, contour_chooses, contour_clash, contour_default, contour_job}
+use Rattle.tool_words.specs.Check.{FitsCheck, check_grammar, check_job}
 use Rattle.tool_words.specs.declared.fault.WordFault.{WordFault}
 use Rattle.tool_words.specs.declared.fault.WordFault.TheVariants.{At, NoMemory}
 use Rattle.tool_words.specs.declared.fault.WordKind.TheVariants.{NoTool, UnknownTool}
 use Rattle.tool_words.specs.declared.job.Job.{Job}
-use Rattle.tool_words.specs.declared.job.Job.TheVariants.{Sieve, Polygonize, Rasterize, Contour}
+use Rattle.tool_words.specs.declared.job.Job.TheVariants.{Sieve, Polygonize, Rasterize, Contour, Check}
 
 -- what is there without a fault
 abbrev pub unless : {A : Type 0} → Option WordFault → A → Result A WordFault
@@ -47,6 +48,9 @@ contour_words words =
     let clash : List Piece → Bool = λ pieces. contour_clash (chosen_by contour_chooses contour_default pieces) in
     job_by contour_grammar clash (λ pieces. Contour (contour_job pieces)) words
 
+abbrev pub check_words : List Text → Result Job WordFault
+check_words words = job_by check_grammar never (λ pieces. Check (check_job pieces)) words
+
 -- the tools by their names
 abbrev pub words_of_tool : Text → List Text → Result Job WordFault
 words_of_tool tool words =
@@ -54,6 +58,7 @@ words_of_tool tool words =
     else if bytes_eq tool (codes "gdal_polygonize") then polygonize_words words
     else if bytes_eq tool (codes "gdal_rasterize") then rasterize_words words
     else if bytes_eq tool (codes "gdal_contour") then contour_words words
+    else if bytes_eq tool (codes "check") then check_words words
     else Err (At UnknownTool 1)
 
 -- the job of the program's words
@@ -66,3 +71,8 @@ abbrev pub IsAnswer : Result Job WordFault → Result Job WordFault → Type 0
 IsAnswer expected (Ok job) = expected ≡ Ok job
 IsAnswer expected (Err NoMemory) = IsOk expected
 IsAnswer expected (Err fault) = expected ≡ Err fault
+
+-- the numbers of a job of check are such as words can name
+abbrev pub FitsJob : Job → Type 0
+FitsJob (Check job) = FitsCheck job
+FitsJob other = Unit {0}

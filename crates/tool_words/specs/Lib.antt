@@ -7,5 +7,6 @@ pub mod Sieve
 pub mod Polygonize
 pub mod Rasterize
 pub mod Contour
+pub mod Check
 pub mod Job
 pub mod Inner

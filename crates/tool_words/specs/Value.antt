@@ -33,6 +33,14 @@ count_of word =
 abbrev pub count_from_one : Text → Option ℕ
 count_from_one word = kept_if (nat_lt 0) (count_of word)
 
+-- the most values that cells may have
+abbrev pub most_values : ℕ
+most_values = 256
+
+-- how many values cells may have: a count from 1
+abbrev pub values_count : Text → Option ℕ
+values_count word = kept_if (λ n. nat_le n most_values) (count_from_one word)
+
 -- a coordinate, in its units
 abbrev pub coordinate : Text → Option ℤ
 coordinate word = result_ok (coord_of word)

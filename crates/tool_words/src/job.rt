@@ -155,6 +155,21 @@ pub struct ContourJob {
     pub field: Option<Name>,
 }
 
+/// A job of `check`: a grid is made, polygonized and burned back.
+#[derive(Clone, Copy, Debug, PartialEq, Eq)]
+pub struct CheckJob {
+    /// The number that the values of the grid are made from.
+    pub seed: u32,
+    /// The number of columns.
+    pub width: u32,
+    /// The number of rows.
+    pub height: u32,
+    /// How many values a cell may have.
+    pub values: u32,
+    /// The type of the cells.
+    pub kind: CellKind,
+}
+
 /// What the words ask for.
 #[derive(Drop)]
 pub enum Job {
@@ -162,4 +177,5 @@ pub enum Job {
     Polygonize(PolygonizeJob),
     Rasterize(RasterizeJob),
     Contour(ContourJob),
+    Check(CheckJob),
 }

@@ -3,6 +3,7 @@
 //! Each tool has a file with its options; `read` is the table of tools.
 #![tactic(auto)]
 
+mod check;
 mod contour;
 mod fault;
 mod job;
@@ -19,8 +20,8 @@ mod words;
 
 pub use fault::{WordFault, WordKind};
 pub use job::{
-    ContourJob, Job, MaskFrom, MicroList, PolygonizeJob, RasterizeJob, SieveJob, SizeFrom,
-    ValueFrom,
+    CheckJob, ContourJob, Job, MaskFrom, MicroList, PolygonizeJob, RasterizeJob, SieveJob,
+    SizeFrom, ValueFrom,
 };
 pub use read::read_words;
 pub use words::{Name, Words};

@@ -61,10 +61,17 @@ impl<'w> Names<'w> {
         }
     }
 
+    // The text of the name of a number; an empty one where there are not so many.
+    pub(crate) fn text(&self, i: usize) -> &'w str
+        ensures { result.now ≡ unwrap_or (slice_get self.now i) [] }
+    {
+        self.get(i).unwrap_or("")
+    }
+
     // The name of a number as a name of its own; an empty one where there are not so many.
     pub(crate) fn copied(&self, alloc: Global, i: usize) -> Result<Name, AllocError>
         ensures { IfOk result (λ name. name ≡ unwrap_or (slice_get self.now i) []) }
     {
-        Name::of(alloc, self.get(i).unwrap_or(""))
+        Name::of(alloc, self.text(i))
     }
 }

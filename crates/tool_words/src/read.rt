@@ -1,6 +1,7 @@
 // The job of the program's words.
 ghost use Rattle.tool_words.specs.Job.{IsAnswer, job_of};
 
+use crate::check::read_check;
 use crate::contour::read_contour;
 use crate::fault::{WordFault, WordKind};
 use crate::job::Job;
@@ -26,6 +27,7 @@ pub fn read_words(alloc: Global, words: &Words) -> Result<Job, WordFault>
         "gdal_polygonize" => read_polygonize(alloc, words),
         "gdal_rasterize" => read_rasterize(alloc, words),
         "gdal_contour" => read_contour(alloc, words),
+        "check" => read_check(words),
         _ => Err(WordFault::At {
             kind: WordKind::UnknownTool,
             place: 1,

@@ -2,7 +2,7 @@
 ghost use Rattle.std.specs.Prelude.{◌≡◌};
 ghost use Rattle.tool_words.specs.Value.{cell_kind, coordinate, count_from_one, count_of, decimal_of, field_name, is_number};
 ghost use Rattle.std.specs.Option.{is_some};
-ghost use Rattle.tool_words.specs.Value.{positive_coordinate, positive_decimal, whole_value};
+ghost use Rattle.tool_words.specs.Value.{positive_coordinate, positive_decimal, values_count, whole_value};
 
 use cell_base::{Cell, CellKind, Micro};
 use fixed_coord::{Coord, scaled};
@@ -12,6 +12,9 @@ const MOST_COUNT: u64 = 2_147_483_647;
 
 // No count has more digits.
 const MOST_DIGITS: usize = 10;
+
+// The most values that cells may have.
+const MOST_VALUES: u32 = 256;
 
 // A count: digits and nothing else.
 pub(crate) fn count(word: &str) -> Option<u32>
@@ -40,6 +43,18 @@ pub(crate) fn size(word: &str) -> Option<u32>
 {
     let number = count(word)?;
     if number > 0 { Some(number) } else { None }
+}
+
+// How many values cells may have.
+pub(crate) fn values(word: &str) -> Option<u32>
+    ensures { result ≡ values_count word.now }
+{
+    let number = size(word)?;
+    if number <= MOST_VALUES {
+        Some(number)
+    } else {
+        None
+    }
 }
 
 // A coordinate.
