@@ -32,7 +32,7 @@ raster_same {T} ncols nrows g h same =
     ap (λ (rs : List (List T)). record { ncols = ncols; nrows = nrows; rows = rs }) rows
 
 -- a grid is the one that its values make
-raster_is : {T : Type 0} (g : Raster T) (d : T) (at : Place → T) → IsRaster g
+pub raster_is : {T : Type 0} (g : Raster T) (d : T) (at : Place → T) → IsRaster g
     → ((p : Place) (x : T) → IsInside g p → value_at g p ≡ Some x → at p ≡ x) → raster_by g.ncols g.nrows at ≡ g
 raster_is {T} g d at whole values =
     let row : ℕ → List T = λ r. map (λ c. at (r, c)) (range_with_len 0 g.ncols) in

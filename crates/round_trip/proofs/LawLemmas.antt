@@ -9,7 +9,7 @@ use Rattle.tool_words.specs.Words.{Text, is_option}
 use Rattle.tool_words.specs.Job.{job_of}
 use Rattle.tool_words.specs.declared.fault.WordFault.{WordFault}
 use Rattle.tool_words.specs.declared.job.Job.{Job}
-use Rattle.tool_words.specs.declared.job.Job.TheVariants.{Contour, Polygonize, Rasterize, Sieve}
+use Rattle.tool_words.specs.declared.job.Job.TheVariants.{Check, Contour, Polygonize, Rasterize, Sieve}
 use Rattle.tool_words.specs.declared.job.PolygonizeJob.{PolygonizeJob}
 use Rattle.tool_outcome.specs.Answer.{Answer, AnswersBy}
 use Rattle.tool_outcome.specs.Outcome.{IsAnswerFor, IsOutcome, IsOutcomeOf, Outcome, end_of_job}
@@ -75,6 +75,7 @@ by_job words files outcome (Ok (Sieve job)) job_is is = tt
 by_job words files outcome (Ok (Polygonize job)) job_is is = by_answer words job files outcome is.0 job_is is.1 is.2
 by_job words files outcome (Ok (Rasterize job)) job_is is = tt
 by_job words files outcome (Ok (Contour job)) job_is is = tt
+by_job words files outcome (Ok (Check job)) job_is is = tt
 
 -- every outcome makes the round trip
 pub makes_round_trip : (words : List Text) (files : Files) (outcome : Outcome) → IsOutcome words files outcome → MakesRoundTrip (job_of words) files outcome.files

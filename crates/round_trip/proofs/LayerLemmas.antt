@@ -10,7 +10,8 @@ use Rattle.std.proofs.lemmas.Option.{none-some, same_Some, slice_get-map}
 use Rattle.cell_base.specs.Raster.{IsRaster, Place, Raster, value_at}
 use Rattle.cell_base.specs.Steps.{four}
 use Rattle.cell_base.specs.WholeCells.{least_int64, most_int64}
-use Rattle.cell_base.specs.declared.kind.CellKind.TheVariants.{Int64}
+use Rattle.cell_base.specs.declared.kind.CellKind.{CellKind}
+use Rattle.cell_base.specs.declared.kind.CellKind.TheVariants.{Byte, Int16, Int32, Int64}
 use Rattle.cell_base.proofs.PlaceLemmas.{inside_from_value, value_inside}
 use Rattle.geo_transform.specs.Frame.{IsFrame}
 use Rattle.geo_transform.specs.declared.frame.Frame.{Frame}
@@ -33,9 +34,10 @@ use Rattle.tool_outcome.specs.Features.{burned_features, first_other, has_points
 use Rattle.tool_outcome.specs.Polygonize.{components_of, shape_of, value_of}
 use Rattle.tool_outcome.specs.Rasterize.{held}
 use Rattle.tool_outcome.proofs.WrittenLemmas.{closed_paths, paths_within}
+use Rattle.round_trip.specs.BackWords.{outside_of}
 use Rattle.round_trip.specs.Layer.{AreFeaturesOf}
 use Rattle.round_trip.proofs.FeatureLemmas.{HasRow, feature_of_component}
-use Rattle.round_trip.proofs.SourceLemmas.{IsGridOfText, IsInt64}
+use Rattle.round_trip.proofs.SourceLemmas.{IsGridOfText, IsInt64, outside_whole}
 
 -- a component with its one part
 abbrev pub alone : ℤ → Polygon → ℤ × List Polygon
@@ -132,13 +134,50 @@ held_same v is =
     let high : int_lt most_int64 v ≡ false = grind (arith, ints, is.high) in
     rw (low, high) refl
 
+-- every type holds 0
+held_zero : (kind : CellKind) → held kind (pos 0) ≡ pos 0
+held_zero Byte = refl
+held_zero Int16 = refl
+held_zero Int32 = refl
+held_zero Int64 = refl
+
+-- a type of cells holds all that a grid has, and what is burned outside
+pub record IsHeldIn (kind : CellKind) (asc : Asc ℤ) : Type 0 where
+  pub cells : (p : Place) (x : ℤ) → value_at asc.cells p ≡ Some x → held kind x ≡ x
+  pub outside : held kind (outside_of asc.nodata) ≡ outside_of asc.nodata
+
+-- 64 bits hold every grid that was read
+pub held_in_64 : (asc : Asc ℤ) → IsGridOfText asc → IsHeldIn Int64 asc
+held_in_64 asc is = record {
+  cells = λ p x at. held_same x (is.cells p x at);
+  outside = held_same (outside_of asc.nodata) (outside_whole asc is);
+}
+
+value_held : (kind : CellKind) (o : Option ℤ) → ((x : ℤ) → o ≡ Some x → held kind x ≡ x) → held kind (unwrap_or o (pos 0)) ≡ unwrap_or o (pos 0)
+value_held kind None each = held_zero kind
+value_held kind (Some x) each = each x refl
+
+values_held : (kind : CellKind) (asc : Asc ℤ) → IsHeldIn kind asc → (firsts : List Place) → All (λ v. held kind v ≡ v) (map (value_of asc.cells) firsts)
+values_held kind asc is [] = All-nil (λ v. held kind v ≡ v)
+values_held kind asc is (a ∷ firsts) =
+    All-cons (λ v. held kind v ≡ v) (value_of asc.cells a) (map (value_of asc.cells) firsts)
+    (value_held kind (value_at asc.cells a) (is.cells a)) (values_held kind asc is firsts)
+
+-- and so the value of each component
+pub components_held : (kind : CellKind) (asc : Asc ℤ) → IsHeldIn kind asc → (firsts : List Place) (shapes : List (List Polygon))
+    → All (λ component. held kind component.0 ≡ component.0) (zip (map (value_of asc.cells) firsts) shapes)
+components_held kind asc is firsts shapes =
+    all_zip (λ v. held kind v ≡ v) (λ ps. Unit {0}) (λ component. held kind component.0 ≡ component.0) (λ v ps same any. same)
+    (map (value_of asc.cells) firsts) shapes (values_held kind asc is firsts) (λ k d within. tt)
+
 -- none of the features is skipped
-pub all_burned : (field : Text) (frame : Frame) (components : List (ℤ × List Polygon)) → All (HasRow frame) components
-    → burned_features (held Int64) (Field field) (map (feature_of_component frame) components) ≡ map (burned_component frame) components
-all_burned field frame [] all = refl
-all_burned field frame (c ∷ cs) all =
-    let value = held_same c.0 (All-head (HasRow frame) c cs all).value in
-    let rest = all_burned field frame cs (All-tail (HasRow frame) c cs all) in
+pub all_burned : (kind : CellKind) (field : Text) (frame : Frame) (components : List (ℤ × List Polygon))
+    → All (λ component. held kind component.0 ≡ component.0) components
+    → burned_features (held kind) (Field field) (map (feature_of_component frame) components) ≡ map (burned_component frame) components
+all_burned kind field frame [] all = refl
+all_burned kind field frame (c ∷ cs) all =
+    let value = All-head (λ component. held kind component.0 ≡ component.0) c cs all in
+    let rest = all_burned kind field frame cs (All-tail (λ component. held kind component.0 ≡ component.0) c cs all) in
     rw (value, rest) refl
 
 -- none is of points or lines

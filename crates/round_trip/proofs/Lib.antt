@@ -12,4 +12,5 @@ pub mod WordLemmas
 pub mod RoundTripLemmas
 pub mod NameLemmas
 pub mod LawLemmas
+pub mod CheckLemmas
 pub mod BackExamples

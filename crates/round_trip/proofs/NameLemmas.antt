@@ -11,14 +11,14 @@ use Rattle.cell_base.proofs.PlaceLemmas.{element_at}
 use Rattle.tool_words.specs.Words.{Text, is_option}
 use Rattle.tool_words.specs.Value.{field_name}
 use Rattle.tool_words.specs.Grammar.{Form, Grammar, Piece, form_of, names_of, pieces_of, takes_of}
-use Rattle.tool_words.specs.Job.{contour_words, job_of, polygonize_words, rasterize_words, sieve_words, unless}
+use Rattle.tool_words.specs.Job.{check_words, contour_words, job_of, polygonize_words, rasterize_words, sieve_words, unless}
 use Rattle.tool_words.specs.Offence.{first_fault, first_wrong, wrong_end, wrong_form, wrong_piece, wrong_values}
 use Rattle.tool_words.specs.Polygonize.{polygonize_grammar, polygonize_job}
 use Rattle.tool_words.specs.declared.fault.WordFault.{WordFault}
 use Rattle.tool_words.specs.declared.fault.WordFault.TheVariants.{At}
 use Rattle.tool_words.specs.declared.fault.WordKind.TheVariants.{BadValue, MissingName, UnknownTool}
 use Rattle.tool_words.specs.declared.job.Job.{Job}
-use Rattle.tool_words.specs.declared.job.Job.TheVariants.{Contour, Polygonize, Rasterize, Sieve}
+use Rattle.tool_words.specs.declared.job.Job.TheVariants.{Check, Contour, Polygonize, Rasterize, Sieve}
 use Rattle.tool_words.specs.declared.job.PolygonizeJob.{PolygonizeJob}
 
 or_none : {A : Type 0} (o p : Option A) → option_or o p ≡ None → (o ≡ None) × (p ≡ None)
@@ -130,18 +130,24 @@ not_contour : (o : Option WordFault) (a : _) (job : PolygonizeJob) → unless o 
 not_contour None a job is = absurd (cc is)
 not_contour (Some fault) a job is = absurd (cc is)
 
-by_tool : (sieve polygonize rasterize contour : Bool) (words : List Text) (job : PolygonizeJob)
+not_check : (o : Option WordFault) (a : _) (job : PolygonizeJob) → unless o (Check a) ≡ Ok (Polygonize job) → ⊥
+not_check None a job is = absurd (cc is)
+not_check (Some fault) a job is = absurd (cc is)
+
+by_tool : (sieve polygonize rasterize contour check : Bool) (words : List Text) (job : PolygonizeJob)
     → (if sieve then sieve_words words else if polygonize then polygonize_words words else if rasterize then rasterize_words words
-    else if contour then contour_words words else Err (At UnknownTool 1)) ≡ Ok (Polygonize job)
+    else if contour then contour_words words else if check then check_words words else Err (At UnknownTool 1)) ≡ Ok (Polygonize job)
     → HasNames job
-by_tool true polygonize rasterize contour words job is = absurd (not_sieve _ _ job is)
-by_tool false true rasterize contour words job is = of_words words job is
-by_tool false false true contour words job is = absurd (not_rasterize _ _ job is)
-by_tool false false false true words job is = absurd (not_contour _ _ job is)
-by_tool false false false false words job is = absurd (cc is)
+by_tool true polygonize rasterize contour check words job is = absurd (not_sieve _ _ job is)
+by_tool false true rasterize contour check words job is = of_words words job is
+by_tool false false true contour check words job is = absurd (not_rasterize _ _ job is)
+by_tool false false false true check words job is = absurd (not_contour _ _ job is)
+by_tool false false false false true words job is = absurd (not_check _ _ job is)
+by_tool false false false false false words job is = absurd (cc is)
 
 -- the names of every job of gdal_polygonize
 pub job_names : (words : List Text) (job : PolygonizeJob) → job_of words ≡ Ok (Polygonize job) → HasNames job
 job_names [] job is = absurd (cc is)
 job_names (tool ∷ words) job is =
-    by_tool (bytes_eq tool (codes "gdal_sieve")) (bytes_eq tool (codes "gdal_polygonize")) (bytes_eq tool (codes "gdal_rasterize")) (bytes_eq tool (codes "gdal_contour")) words job is
+    by_tool (bytes_eq tool (codes "gdal_sieve")) (bytes_eq tool (codes "gdal_polygonize")) (bytes_eq tool (codes "gdal_rasterize"))
+    (bytes_eq tool (codes "gdal_contour")) (bytes_eq tool (codes "check")) words job is

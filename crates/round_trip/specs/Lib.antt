@@ -1,3 +1,4 @@
 pub mod Layer
 pub mod BackWords
 pub mod RoundTrip
+pub mod Check

@@ -1,7 +1,7 @@
 // What holds of grids that are polygonized and burned again, whatever code does it.
-ghost use Rattle.std.specs.Prelude.{◌≡◌, ◌↔◌, ℕ, ℤ, Bool, List, Ok, Some, true};
+ghost use Rattle.std.specs.Prelude.{◌≡◌, ◌↔◌, ◌*◌, ◌≤◌, ℕ, ℤ, Bool, List, Ok, Some, true};
 ghost use Rattle.rv_outside.specs.Files.{Files};
-ghost use Rattle.cell_base.specs.Raster.{Place, Raster};
+ghost use Rattle.cell_base.specs.Raster.{Place, Raster, most_cells};
 ghost use Rattle.geo_transform.specs.Frame.{IsFrame, frame_or_fault_in};
 ghost use Rattle.geo_transform.specs.Layout.{layout_by_size};
 ghost use Rattle.geo_transform.specs.declared.frame.Frame.{Frame};
@@ -14,12 +14,17 @@ ghost use Rattle.burn_scanline.specs.Burned.{BurnedFeature, inside_value};
 ghost use Rattle.burn_scanline.specs.Centre.{is_covered};
 ghost use Rattle.burn_scanline.specs.declared.burning.How.TheVariants.{Set};
 ghost use Rattle.tool_words.specs.Words.{Text};
+ghost use Rattle.tool_words.specs.Check.{FitsCheck};
 ghost use Rattle.tool_words.specs.Job.{job_of};
+ghost use Rattle.tool_words.specs.declared.job.CheckJob.{CheckJob};
+ghost use Rattle.tool_outcome.specs.Check.{checked_grid, layer_job};
 ghost use Rattle.tool_outcome.specs.Outcome.{IsOutcome, Outcome};
-ghost use Rattle.tool_outcome.specs.Polygonize.{paths_of};
-ghost use Rattle.tool_outcome.specs.Rasterize.{raster_by};
+ghost use Rattle.tool_outcome.specs.Polygonize.{IsPolygonizeText, paths_of};
+ghost use Rattle.tool_outcome.specs.Rasterize.{raster_by, rasterize_answer};
 ghost use Rattle.tool_outcome.specs.Sieve.{IsMaskOf};
+ghost use Rattle.tool_outcome.specs.Source.{source_of, text_of};
 ghost use Rattle.round_trip.specs.BackWords.{extent_of};
+ghost use Rattle.round_trip.specs.Check.{burn_job};
 ghost use Rattle.round_trip.specs.Layer.{AreFeaturesOf, IsInFrame, IsLabelledOver, normalised};
 ghost use Rattle.round_trip.specs.RoundTrip.{MakesRoundTrip};
 
@@ -57,4 +62,17 @@ pub fn extent_gives_the_frame_back()
 pub fn grid_comes_back()
     ensures { (words : List Text) (files : Files) (outcome : Outcome) → IsOutcome words files outcome
         → MakesRoundTrip (job_of words) files outcome.files }
+{}
+
+/// The grid that `check` makes reads back from its canonical text, where it doesn't have too many cells.
+pub fn checked_grid_reads_back()
+    ensures { (job : CheckJob) → FitsCheck job → job.width * job.height ≤ most_cells
+        → source_of (Some (text_of (checked_grid job))) ≡ Ok (checked_grid job) }
+{}
+
+/// The layer of that grid is burned back to its canonical text, in each type of cells.
+pub fn checked_grid_comes_back()
+    ensures { (job : CheckJob) (layer : List ℕ) (files : Files) → FitsCheck job → job.width * job.height ≤ most_cells
+        → IsPolygonizeText layer_job (checked_grid job) layer → files layer_job.dest ≡ Some layer
+        → rasterize_answer (burn_job job) files ≡ Ok (text_of (checked_grid job)) }
 {}

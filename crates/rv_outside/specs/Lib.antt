@@ -6,4 +6,5 @@ pub mod MemoryFolder
 pub mod MemorySink
 pub mod Sink
 pub mod StdSink
+pub mod SureFolder
 pub mod Inner

@@ -1,5 +1,5 @@
 -- What a sink over a writer shows of itself.
-use Rattle.std.specs.Prelude.{ℕ, None}
+use Rattle.std.specs.Prelude.{None}
 use Rattle.rv_outside.specs.Sink.{SinkState}
 use Rattle.rv_outside.specs.declared.std_sink.StdSink.{StdSink}
 

@@ -1,13 +1,12 @@
 // A folder in memory.
-ghost use Rattle.std.specs.Prelude.{◌≡◌, ◌∷◌, ◌++◌, [], ◌≤◌, ◌<◌, ◌↔◌, ◌+◌, Some, None, Contains, IfNone, IfSome, IsErrOf, IsSome, IsTrue, OnErr, OnOk, drop, length, take};
-ghost use Rattle.rv_outside.specs.Files.{with_file, with_appended};
+ghost use Rattle.std.specs.Prelude.{◌≡◌, ◌∷◌, ◌++◌, [], ◌<◌, ◌↔◌, Some, None, Contains, IfNone, IfSome, IsErrOf, IsSome, IsTrue, OnErr, OnOk, length};
+ghost use Rattle.rv_outside.specs.Files.{with_file};
 ghost use Rattle.rv_outside.specs.Folder.{ReadsAt, Creates, AppendsTo};
-ghost use Rattle.rv_outside.specs.FileMap.{files_in};
 
 use crate::causes::raise;
+use crate::file_map::FileMap;
 use crate::{Folder, Taken, Trouble};
 use std::alloc::{AllocError, Global};
-use std::collections::BTreeMap;
 
 /// A kind of call that can be made to fail.
 #[derive(Clone, Copy, Debug, PartialEq, Eq)]
@@ -20,8 +19,7 @@ pub enum Call {
 /// A folder that keeps its files in memory and tells them. Its calls can be made to fail.
 #[derive(Drop)]
 pub struct MemoryFolder {
-    alloc: Global,
-    files: BTreeMap<String, Vec<u8>>,
+    files: FileMap,
     // which calls of which kind are to fail, counted from 1
     failing: Vec<(Call, u64)>,
     reads: u64,
@@ -42,8 +40,7 @@ impl MemoryFolder {
         ensures fresh { (call : _) → calls_of result call ≡ 0 }
     {
         MemoryFolder {
-            alloc,
-            files: BTreeMap::new(alloc),
+            files: FileMap::new(alloc),
             failing: Vec::new(alloc),
             reads: 0,
             creates: 0,
@@ -62,7 +59,7 @@ impl MemoryFolder {
         ensures same { failing_calls self.new ≡ failing_calls self.old }
         ensures calls { (call : _) → calls_of self.new call ≡ calls_of self.old call }
     {
-        put(self.alloc, &mut self.files, name, bytes)
+        self.files.put(name, bytes)
     }
 
     /// The bytes of a file; none exactly where no file has the name.
@@ -70,10 +67,7 @@ impl MemoryFolder {
         ensures found { IfSome result (λ bytes. memory_files self.now name.now ≡ Some bytes.now) }
         ensures none { IfNone result (memory_files self.now name.now ≡ None) }
     {
-        match self.files.get(name) {
-            Some(bytes) => Some(bytes.as_slice()),
-            None => None,
-        }
+        self.files.get(name)
     }
 
     /// Lets the n-th call of a kind fail, counted from 1 since the folder was made. The only error is want
@@ -89,48 +83,10 @@ impl MemoryFolder {
     }
 }
 
-// Both of these change the map by itself, so that a refusal is seen to leave it as it was.
-fn put(
-    alloc: Global,
-    files: &mut BTreeMap<String, Vec<u8>>,
-    name: &str,
-    bytes: &[u8],
-) -> Result<(), AllocError>
-    ensures put { OnOk result (files_in files.new ≡ with_file name.now bytes.now (files_in files.old)) }
-    ensures err { OnErr result (files_in files.new ≡ files_in files.old) }
-{
-    let name = String::from_str(alloc, name)?;
-    let bytes = bytes.to_vec(alloc)?;
-    files.insert(name, bytes)?;
-    Ok(())
-}
-
-fn grow(files: &mut BTreeMap<String, Vec<u8>>, name: &str, piece: &[u8]) -> Result<(), AllocError>
-    requires { IsSome (files_in files.old name.now) }
-    ensures grown { OnOk result (files_in files.new ≡ with_appended name.now piece.now (files_in files.old)) }
-    ensures err { OnErr result (files_in files.new ≡ files_in files.old) }
-{
-    let bytes = files.get_mut(name).unwrap();
-    bytes.extend_from_slice(piece)?;
-    Ok(())
-}
-
 fn is_to_fail(failing: &[(Call, u64)], call: Call, count: u64) -> bool
     ensures { IsTrue result ↔ Contains failing.now (call, count) }
 {
     failing.contains(&(call, count))
-}
-
-// Copies what a file has from an offset on, as far as the buffer goes.
-fn copy_piece(bytes: &[u8], offset: usize, into: &mut [u8]) -> usize
-    requires some { 0 < length into.old }
-    requires there { offset < length bytes.now }
-    ensures within { (0 < result) × (result ≤ length into.new) × (offset + result ≤ length bytes.now) }
-    ensures copied { take result into.new ≡ take result (drop offset bytes.now) }
-{
-    let count = into.len().min(bytes.len() - offset);
-    into[..count].copy_from_slice(&bytes[offset..offset + count]);
-    count
 }
 
 impl Folder for MemoryFolder {
@@ -148,20 +104,11 @@ impl Folder for MemoryFolder {
             raise(&mut self.read_faults);
             return Err(Trouble::Failed);
         }
-        match self.files.get(name) {
-            None => {
-                raise(&mut self.missing);
-                Ok(Taken::Missing)
-            }
-            Some(bytes) => {
-                let offset = offset as usize;
-                if offset >= bytes.len() {
-                    Ok(Taken::End)
-                } else {
-                    Ok(Taken::Bytes(copy_piece(bytes, offset, into)))
-                }
-            }
+        let taken = self.files.read_at(name, offset, into);
+        if taken == Taken::Missing {
+            raise(&mut self.missing);
         }
+        Ok(taken)
     }
 
     fn create(&mut self, name: &str) -> Result<(), Trouble>
@@ -173,7 +120,7 @@ impl Folder for MemoryFolder {
             raise(&mut self.write_faults);
             return Err(Trouble::Failed);
         }
-        match put(self.alloc, &mut self.files, name, &[]) {
+        match self.files.put(name, &[]) {
             Ok(()) => Ok(()),
             Err(_) => Err(Trouble::NoMemory),
         }
@@ -190,7 +137,7 @@ impl Folder for MemoryFolder {
             raise(&mut self.write_faults);
             return Err(Trouble::Failed);
         }
-        match grow(&mut self.files, name, piece) {
+        match self.files.grow(name, piece) {
             Ok(()) => Ok(piece.len()),
             Err(_) => Err(Trouble::NoMemory),
         }

@@ -5,3 +5,5 @@ pub mod ContourLemmas
 pub mod OneOutcomeLemmas
 pub mod WrittenLemmas
 mod RasterizeExamples
+pub mod CheckLemmas
+pub mod CheckExamples

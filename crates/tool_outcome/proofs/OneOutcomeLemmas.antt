@@ -6,11 +6,12 @@ use Rattle.tool_words.specs.Words.{Text}
 use Rattle.tool_words.specs.Job.{job_of}
 use Rattle.tool_words.specs.declared.fault.WordFault.{WordFault}
 use Rattle.tool_words.specs.declared.job.Job.{Job}
-use Rattle.tool_words.specs.declared.job.Job.TheVariants.{Sieve, Polygonize, Rasterize, Contour}
+use Rattle.tool_words.specs.declared.job.Job.TheVariants.{Sieve, Polygonize, Rasterize, Contour, Check}
 use Rattle.tool_outcome.specs.Answer.{Answer}
 use Rattle.tool_outcome.specs.Outcome.{HasOneOutcome, IsAnswerFor, IsOutcomeOf, Outcome, end_of_job}
 use Rattle.tool_outcome.specs.Source.{source_by, source_of}
 use Rattle.tool_outcome.proofs.SieveLemmas.{one_answer}
+use Rattle.tool_outcome.proofs.CheckLemmas as checks
 use Rattle.tool_outcome.proofs.ContourLemmas as contours
 use Rattle.tool_outcome.proofs.PolygonizeLemmas as polygons
 
@@ -19,6 +20,7 @@ one_for_job (Sieve job) files a b one two = one_answer job (source_of (files job
 one_for_job (Polygonize job) files a b one two = polygons.one_answer job (source_of (files job.source)) a b one two
 one_for_job (Rasterize job) files a b one two = one ∙ sym two
 one_for_job (Contour job) files a b one two = contours.one_answer job (source_by micro_of (files job.source)) a b one two
+one_for_job (Check job) files a b one two = checks.one_answer job a b one two
 
 one_of : (job : Result Job WordFault) (files : Files) (a b : Outcome) → IsOutcomeOf job files a → IsOutcomeOf job files b → a ≡ b
 one_of (Err fault) files a b one two = one ∙ sym two

@@ -1,6 +1,7 @@
 -- The text of gdal_polygonize is one.
-use Rattle.std.proofs.Common.{◌≡◌, ◌∙◌, ℕ, suc, ℤ, List, [], ◌∷◌, Some, Result, Ok, Err, length, refl, sym, ap, subst, arith}
+use Rattle.std.proofs.Common.{◌≡◌, ◌∙◌, ℕ, suc, Bool, ℤ, List, [], ◌∷◌, Some, Result, Ok, Err, length, refl, sym, ap, subst, arith}
 use Rattle.std.specs.Prelude.{slice_get}
+use Rattle.cell_base.specs.Raster.{Raster}
 use Rattle.cell_base.specs.Steps.{four}
 use Rattle.asc_grid.specs.declared.grid.Asc.{Asc}
 use Rattle.region_label.specs.Labelling.{RegionTable, IsLabelling}
@@ -10,6 +11,7 @@ use Rattle.ring_faces.specs.Faces.{ArePolygonsOf}
 use Rattle.tool_words.specs.declared.job.PolygonizeJob.{PolygonizeJob}
 use Rattle.tool_outcome.specs.Polygonize.{HasOneLayer, IsPolygonizeText, components_of, layer_text}
 use Rattle.tool_outcome.specs.Answer.{Answer, AnswersBy}
+use Rattle.tool_outcome.specs.Sieve.{IsMaskOf}
 use Rattle.tool_outcome.specs.declared.fault.Fault.{Fault}
 use Rattle.tool_outcome.proofs.MaskLemmas.{one_mask}
 
@@ -27,14 +29,18 @@ pub one_list : (regions : RegionTable) (a b : List Polygon) → ArePolygonsOf re
 one_list regions a b one two =
     same_lists a b (one.count ∙ sym two.count) (λ k x y at_x at_y. (two.each k y at_y).1 x ((one.each k x at_x).0))
 
+-- a grid has one table of components
+pub one_table : (connectivity : Bool) (asc : Asc ℤ) (valid other : Raster Bool) (a b : RegionTable) → IsMaskOf asc valid → IsMaskOf asc other
+    → IsLabelling connectivity asc.cells valid a → IsLabelling connectivity asc.cells other b → a ≡ b
+one_table connectivity asc valid other a b one two by_one by_other =
+    let same = one_mask asc valid other one two in
+    one_labelling connectivity asc.cells valid a b by_one (subst (λ v. IsLabelling connectivity asc.cells v b) same by_other)
+
 -- the text is one
 pub one_layer : (job : PolygonizeJob) (asc : Asc ℤ) → HasOneLayer job asc
 one_layer job asc text other one two =
-    let valid = one_mask asc one.valid two.valid one.mask two.mask in
-    let by_sides : IsLabelling four asc.cells one.valid two.sides = subst (λ v. IsLabelling four asc.cells v two.sides) valid two.by_sides in
-    let labelled : IsLabelling job.eight asc.cells one.valid two.regions = subst (λ v. IsLabelling job.eight asc.cells v two.regions) valid two.labelled in
-    let sides : one.sides ≡ two.sides = one_labelling four asc.cells one.valid one.sides two.sides one.by_sides by_sides in
-    let regions : one.regions ≡ two.regions = one_labelling job.eight asc.cells one.valid one.regions two.regions one.labelled labelled in
+    let sides : one.sides ≡ two.sides = one_table four asc one.valid two.valid one.sides two.sides one.mask two.mask one.by_sides two.by_sides in
+    let regions : one.regions ≡ two.regions = one_table job.eight asc one.valid two.valid one.regions two.regions one.mask two.mask one.labelled two.labelled in
     let polygons : one.polygons ≡ two.polygons = one_list two.sides one.polygons two.polygons (subst (λ r. ArePolygonsOf r one.polygons) sides one.drawn) two.drawn in
     one.is
     ∙ ap (λ r. layer_text job.field asc.frame (components_of asc.cells r one.sides one.polygons)) regions

@@ -9,4 +9,5 @@ pub mod Contour
 pub mod Features
 pub mod LayerExtent
 pub mod Rasterize
+pub mod Check
 pub mod Outcome

@@ -17,7 +17,7 @@ use Rattle.tool_words.specs.declared.fault.WordKind.TheVariants as word
 use Rattle.tool_words.specs.declared.fault.WordFault.{WordFault}
 use Rattle.tool_words.specs.declared.fault.WordFault.TheVariants as words
 use Rattle.tool_words.specs.declared.job.Job.{Job}
-use Rattle.tool_words.specs.declared.job.Job.TheVariants.{Sieve, Polygonize, Rasterize, Contour}
+use Rattle.tool_words.specs.declared.job.Job.TheVariants.{Sieve, Polygonize, Rasterize, Contour, Check}
 use Rattle.tool_outcome.specs.Status.{status_of_fault, status_of_words}
 use Rattle.tool_outcome.specs.declared.fault.Fault.{Fault}
 use Rattle.tool_outcome.specs.declared.fault.Fault.TheVariants as fault
@@ -94,19 +94,21 @@ frame_text frame.OutOfRange = codes "out of range"
 abbrev pub line_of_frame : FrameFault → List ℕ
 line_of_frame offence = codes "frame: " ++ frame_text offence ++ codes "\n"
 
--- the names of a job's source and destination
+-- the names of a job's source and destination; check has no files, and what it writes to is named as output
 
 abbrev pub source_of_job : Job → Text
 source_of_job (Sieve job) = job.source
 source_of_job (Polygonize job) = job.source
 source_of_job (Rasterize job) = job.source
 source_of_job (Contour job) = job.source
+source_of_job (Check job) = codes "output"
 
 abbrev pub dest_of_job : Job → Text
 dest_of_job (Sieve job) = job.dest
 dest_of_job (Polygonize job) = job.dest
 dest_of_job (Rasterize job) = job.dest
 dest_of_job (Contour job) = job.dest
+dest_of_job (Check job) = codes "output"
 
 -- the line of a fault, by the names of the source and the destination
 abbrev pub line_of_fault : Text → Text → Fault → List ℕ

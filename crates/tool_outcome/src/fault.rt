@@ -106,7 +106,7 @@ impl From<LayerFault> for Fault {
     }
 }
 
-// Trouble comes here from the destination alone.
+// Trouble comes here from the destination, and from what check prints to.
 impl From<Trouble> for Fault {
     ghost use Rattle.std.specs.Prelude.{◌≡◌};
     ghost use Rattle.tool_outcome.specs.Fault.{of_write};

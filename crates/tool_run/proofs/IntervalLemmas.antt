@@ -12,7 +12,7 @@ use Rattle.tool_words.specs.Value.{decimal_of, kept_if, positive_decimal}
 use Rattle.tool_words.specs.Chosen.{chooses_next, chosen_by, is_piece}
 use Rattle.tool_words.specs.Offence.{first_fault}
 use Rattle.tool_words.specs.Contour.{ContourChoice, contour_chooses, contour_clash, contour_default, contour_grammar, contour_job}
-use Rattle.tool_words.specs.Job.{contour_words, job_of, polygonize_words, rasterize_words, sieve_words, unless, words_of_tool}
+use Rattle.tool_words.specs.Job.{check_words, contour_words, job_of, polygonize_words, rasterize_words, sieve_words, unless, words_of_tool}
 use Rattle.tool_words.specs.Sieve.{sieve_job}
 use Rattle.tool_words.specs.declared.fault.WordFault.{WordFault}
 use Rattle.tool_words.specs.declared.job.Job.{Job}
@@ -58,16 +58,19 @@ contour_has words job is =
 other_interval : (fault : Option WordFault) (other job : Job) → HasInterval other → unless fault other ≡ Ok job → HasInterval job
 other_interval fault other job has is = subst HasInterval (unless_is fault other job is) has
 
-abbrev words_by : Bool → Bool → Bool → Bool → List Text → Result Job WordFault → Result Job WordFault
-words_by a b c d words other = if a then sieve_words words else if b then polygonize_words words else if c then rasterize_words words else if d then contour_words words else other
+abbrev words_by : Bool → Bool → Bool → Bool → Bool → List Text → Result Job WordFault → Result Job WordFault
+words_by a b c d e words other =
+    if a then sieve_words words else if b then polygonize_words words else if c then rasterize_words words
+    else if d then contour_words words else if e then check_words words else other
 
-by_tool : (a b c d : Bool) (words : List Text) (fault : WordFault) (job : Job) → words_by a b c d words (Err fault) ≡ Ok job → HasInterval job
-by_tool true b c d words fault job is = other_interval _ _ job tt is
-by_tool false true c d words fault job is = other_interval _ _ job tt is
-by_tool false false true d words fault job is = other_interval _ _ job tt is
-by_tool false false false true words fault job is = contour_has words job is
-by_tool false false false false words fault job is = absurd (cc is)
+by_tool : (a b c d e : Bool) (words : List Text) (fault : WordFault) (job : Job) → words_by a b c d e words (Err fault) ≡ Ok job → HasInterval job
+by_tool true b c d e words fault job is = other_interval _ _ job tt is
+by_tool false true c d e words fault job is = other_interval _ _ job tt is
+by_tool false false true d e words fault job is = other_interval _ _ job tt is
+by_tool false false false true e words fault job is = contour_has words job is
+by_tool false false false false true words fault job is = other_interval _ _ job tt is
+by_tool false false false false false words fault job is = absurd (cc is)
 
 pub has_interval : (words : List Text) (job : Job) → job_of words ≡ Ok job → HasInterval job
 has_interval [] job is = absurd (cc is)
-has_interval (tool ∷ words) job is = by_tool (bytes_eq tool (codes "gdal_sieve")) (bytes_eq tool (codes "gdal_polygonize")) (bytes_eq tool (codes "gdal_rasterize")) (bytes_eq tool (codes "gdal_contour")) words _ job is
+has_interval (tool ∷ words) job is = by_tool (bytes_eq tool (codes "gdal_sieve")) (bytes_eq tool (codes "gdal_polygonize")) (bytes_eq tool (codes "gdal_rasterize")) (bytes_eq tool (codes "gdal_contour")) (bytes_eq tool (codes "check")) words _ job is

@@ -14,3 +14,6 @@ pub mod ExtentLemmas
 pub mod StrokeLemmas
 pub mod CellTextLemmas
 pub mod BurnLemmas
+pub mod JobLemmas
+pub mod CheckLemmas
+pub mod CheckEndLemmas

@@ -1,6 +1,6 @@
 -- What a run tells of the answer of its tool.
 use Rattle.std.proofs.Common.{◌≡◌, ◌≢◌, ◌∙◌, ap, ℕ, List, [], Option, Some, None, Result, Ok, Err, IfSome, OnErr, refl, sym, subst}
-use Rattle.rv_outside.specs.Files.{Files, with_file}
+use Rattle.rv_outside.specs.Files.{Files}
 use Rattle.rv_outside.specs.Sink.{SinkState}
 use Rattle.asc_grid.specs.declared.fault.GridKind.{GridKind}
 use Rattle.asc_grid.specs.declared.fault.GridKind.TheVariants.{UnknownKeyword, RepeatedKeyword, MissingKeyword, BadNumber, OutOfRange, TooLarge, BadCell, TooFewCells, TooManyCells}
@@ -15,8 +15,8 @@ use Rattle.tool_words.specs.declared.fault.WordFault.{WordFault}
 use Rattle.tool_words.specs.declared.fault.WordFault.TheVariants as word
 use Rattle.tool_words.specs.declared.job.Job.{Job}
 use Rattle.tool_outcome.specs.Message.{IsLine, dest_of_job, line_of_answer, line_of_job, line_of_words, source_of_job}
-use Rattle.tool_outcome.specs.Outcome.{Does, LeavesPart, Meets, IsOutcomeOf, WordsLeavePart, end_of_job, end_of_words}
-use Rattle.tool_outcome.specs.Status.{IsDecided, status_of, status_of_words}
+use Rattle.tool_outcome.specs.Outcome.{DoesPrinting, LeavesPart, Meets, IsOutcomeOf, Outcome, WordsLeavePart, end_of_job, end_of_words, files_with}
+use Rattle.tool_outcome.specs.Status.{IsDecided, status_of, status_of_fault, status_of_words}
 use Rattle.tool_outcome.specs.declared.fault.Fault.{Fault}
 use Rattle.tool_outcome.specs.declared.fault.Fault.TheVariants as fault
 use Rattle.tool_outcome.specs.declared.fault.Role.{Role}
@@ -25,6 +25,12 @@ use Rattle.tool_outcome.specs.declared.status.Status.TheVariants.{Done}
 use Rattle.round_trip.specs.RoundTrip.{MakesRoundTrip}
 use Rattle.round_trip.proofs.LawLemmas.{makes_round_trip}
 use Rattle.tool_run.specs.Line.{SaysLine}
+use Rattle.tool_run.specs.Printed.{IsPrinted, Prints}
+use Rattle.tool_run.proofs.JobLemmas.{nothing_printed, prints_nothing}
+
+-- an end of a run
+abbrev end_with : Status → List ℕ → Files → List ℕ → Outcome
+end_with status line files printed = record { status = status; line = line; files = files; out = printed }
 
 -- the answer of a job, as its line
 abbrev pub line_by : Job → Result (Unit {0}) Fault → List ℕ
@@ -72,34 +78,46 @@ line_is job (Err fault.NoMemory) = (fault.NoMemory, refl, refl)
 
 -- refused words, or want of memory in place of a job
 
+pub not_done : (refusal : WordFault) → status_of_words refusal ≡ Done → ⊥
+not_done (word.At kind place) is = absurd (cc is)
+not_done word.NoMemory is = absurd (cc is)
+
 refused_line : (read : Result Job WordFault) (refusal : WordFault) → IsAnswer read (Err refusal) → IsLine read (status_of_words refusal) (line_of_words refusal)
 refused_line (Ok job) word.NoMemory is = (fault.NoMemory, refl, refl)
 refused_line (Err other) word.NoMemory is = absurd (cc is)
 refused_line read (word.At kind place) is = subst (λ r. IsLine r (status_of_words (word.At kind place)) (line_of_words (word.At kind place))) (sym is) (refl, refl)
 
-refused_meets : (old : Option Files) (words : List Text) (refusal : WordFault) → IsAnswer (job_of words) (Err refusal) → IsDecided (status_of_words refusal) → IfSome old (λ files. Meets words files (status_of_words refusal) (line_of_words refusal) old)
+refused_meets : (old : Option Files) (words : List Text) (refusal : WordFault) → IsAnswer (job_of words) (Err refusal) → IsDecided (status_of_words refusal) → IfSome old (λ files. Meets words files (status_of_words refusal) (line_of_words refusal) [] old)
 refused_meets None words refusal is decided = tt
 refused_meets (Some files) words word.NoMemory is decided = absurd decided
 refused_meets (Some files) words (word.At kind place) is decided = (files, refl, subst (λ r. IsOutcomeOf r files (end_of_words (word.At kind place) files)) (sym is) refl)
 
--- the outcome of words without a job
-pub refuses : (old : Option Files) (words : List Text) (refusal : WordFault) (status : Status) (before after : SinkState) → IsAnswer (job_of words) (Err refusal) → status ≡ status_of_words refusal → SaysLine (line_of_words refusal) before after
-    → (line : List ℕ) × IsLine (job_of words) status line × SaysLine line before after × (IsDecided status → IfSome old (λ files. Meets words files status line old))
-refuses old words refusal status before after is ended says = (
+-- the outcome of words without a job, or without memory for it
+pub refuses : (old : Option Files) (words : List Text) (refusal : WordFault) (status : Status) (before after out : SinkState) → IsAnswer (job_of words) (Err refusal) → status ≡ status_of_words refusal → SaysLine (line_of_words refusal) before after
+    → (line printed : List ℕ) × IsLine (job_of words) status line × SaysLine line before after × IsPrinted (job_of words) status printed × Prints printed status out out
+    × (IsDecided status → IfSome old (λ files. Meets words files status line printed old))
+refuses old words refusal status before after out is ended says = (
   line_of_words refusal,
+  [],
   subst (λ s. IsLine (job_of words) s (line_of_words refusal)) (sym ended) (refused_line (job_of words) refusal is),
   says,
+  nothing_printed (job_of words) status (λ done. not_done refusal (sym ended ∙ done)),
+  prints_nothing status out,
   λ decided.
-      subst (λ s. IfSome old (λ files. Meets words files s (line_of_words refusal) old)) (sym ended) (refused_meets old words refusal is (subst IsDecided ended decided)),
+      subst (λ s. IfSome old (λ files. Meets words files s (line_of_words refusal) [] old)) (sym ended) (refused_meets old words refusal is (subst IsDecided ended decided)),
 )
 
-meets_job : (words : List Text) (job : Job) (files : Files) (answer : Result (Unit {0}) Fault) (now : Option Files) → job_of words ≡ Ok job → Does job files answer now → Meets words files (status_of answer) (line_by job answer) now
-meets_job words job files (Ok u) now is does = (with_file (dest_of_job job) does.0 files, does.2, subst (λ j. IsOutcomeOf j files (end_of_job job files (Ok does.0))) (sym is) (Ok does.0, does.1, refl))
-meets_job words job files (Err fault) now is does = (files, does.1, subst (λ j. IsOutcomeOf j files (end_of_job job files (Err fault))) (sym is) (Err fault, does.0, refl))
+meets_job : (words : List Text) (job : Job) (files : Files) (answer : Result (Unit {0}) Fault) (printed : List ℕ) (now : Option Files) → job_of words ≡ Ok job → DoesPrinting job files answer printed now → Meets words files (status_of answer) (line_by job answer) printed now
+meets_job words job files (Ok u) printed now is (text, answers, prints, now_is) =
+    let ended : end_with Done [] (files_with job text files) printed ≡ end_of_job job files (Ok text) = ap (end_with Done [] (files_with job text files)) prints in
+    (files_with job text files, now_is, subst (λ j. IsOutcomeOf j files (end_with Done [] (files_with job text files) printed)) (sym is) (Ok text, answers, ended))
+meets_job words job files (Err fault) printed now is (answers, prints, now_is) =
+    let ended : end_with (status_of_fault fault) (line_of_job job fault) files printed ≡ end_of_job job files (Err fault) = ap (end_with (status_of_fault fault) (line_of_job job fault) files) prints in
+    (files, now_is, subst (λ j. IsOutcomeOf j files (end_with (status_of_fault fault) (line_of_job job fault) files printed)) (sym is) (Err fault, answers, ended))
 
-pub meets : (old : Option Files) (words : List Text) (job : Job) (answer : Result (Unit {0}) Fault) (now : Option Files) → job_of words ≡ Ok job → IfSome old (λ files. Does job files answer now) → IfSome old (λ files. Meets words files (status_of answer) (line_by job answer) now)
-meets None words job answer now is does = tt
-meets (Some files) words job answer now is does = meets_job words job files answer now is does
+pub meets : (old : Option Files) (words : List Text) (job : Job) (answer : Result (Unit {0}) Fault) (printed : List ℕ) (now : Option Files) → job_of words ≡ Ok job → IfSome old (λ files. DoesPrinting job files answer printed now) → IfSome old (λ files. Meets words files (status_of answer) (line_by job answer) printed now)
+meets None words job answer printed now is does = tt
+meets (Some files) words job answer printed now is does = meets_job words job files answer printed now is does
 
 pub leaves_part : (old now : Option Files) (words : List Text) (job : Job) (answer : Result (Unit {0}) Fault) → job_of words ≡ Ok job → status_of answer ≢ Done → OnErr answer (IfSome old (λ files. LeavesPart job files now)) → IfSome old (λ files. WordsLeavePart (job_of words) files now)
 leaves_part old now words job (Ok u) is other part = absurd (other refl)
@@ -108,17 +126,13 @@ leaves_part (Some files) now words job (Err fault) is other part = subst (λ j. 
 
 -- what was polygonized comes back
 
-comes_back : (words : List Text) (files : Files) (status : Status) (line : List ℕ) (now : Option Files) → Meets words files status line now
+comes_back : (words : List Text) (files : Files) (status : Status) (line printed : List ℕ) (now : Option Files) → Meets words files status line printed now
     → IfSome now (MakesRoundTrip (job_of words) files)
-comes_back words files status line now (after, now_is, is) =
+comes_back words files status line printed now (after, now_is, is) =
     subst (λ o. IfSome o (MakesRoundTrip (job_of words) files)) (sym now_is)
-    (makes_round_trip words files (record { status = status; line = line; files = after; out = [] }) is)
+    (makes_round_trip words files (end_with status line after printed) is)
 
-pub round_trip : (old now : Option Files) (words : List Text) (status : Status) (line : List ℕ) → (IsDecided status → IfSome old (λ files. Meets words files status line now))
+pub round_trip : (old now : Option Files) (words : List Text) (status : Status) (line printed : List ℕ) → (IsDecided status → IfSome old (λ files. Meets words files status line printed now))
     → status ≡ Done → IfSome old (λ files. IfSome now (MakesRoundTrip (job_of words) files))
-round_trip None now words status line met done = tt
-round_trip (Some files) now words status line met done = comes_back words files status line now (met (subst IsDecided (sym done) tt))
-
-pub not_done : (refusal : WordFault) → status_of_words refusal ≡ Done → ⊥
-not_done (word.At kind place) is = absurd (cc is)
-not_done word.NoMemory is = absurd (cc is)
+round_trip None now words status line printed met done = tt
+round_trip (Some files) now words status line printed met done = comes_back words files status line printed now (met (subst IsDecided (sym done) tt))

@@ -6,3 +6,4 @@ pub mod Ranges
 pub mod LayerFile
 pub mod Extent
 pub mod Strokes
+pub mod Checked

@@ -1,3 +1,5 @@
 pub mod Causes
 pub mod Line
+pub mod Printed
+pub mod Check
 pub mod Inner

@@ -10,7 +10,7 @@ ghost use Rattle.tool_outcome.specs.LayerExtent.{layer_extent};
 ghost use Rattle.tool_outcome.specs.Outcome.{CanBeDone, Does, LeavesPart};
 ghost use Rattle.tool_outcome.specs.Rasterize.{frame_in, rasterize_text};
 ghost use Rattle.tool_outcome.specs.Status.{IsDecided, status_of};
-ghost use Rattle.tool_run.specs.Causes.{HasCauses};
+ghost use Rattle.tool_run.specs.Causes.{HasCauses, IsToolFault};
 ghost use Rattle.tool_run.specs.Inner.Steps.{IsPartWritten, IsWriteFault};
 ghost use Rattle.tool_run.specs.Inner.Strokes.{IsFrameFault, IsKind, IsOver};
 
@@ -195,6 +195,7 @@ pub fn rasterize<F: Folder>(alloc: Global, job: &RasterizeJob, folder: &mut F) -
     // Each fault of the folder has its cause, and no call that failed is passed over.
     ensures causes { HasCauses (status_of result) (F.state folder.old) (F.state folder.new) }
     ensures read_same { status_of result ≡ Status.ReadFault → (F.state folder.new).files ≡ (F.state folder.old).files }
+    ensures kind { IfErr result IsToolFault }
     ensures write_done { status_of result ≡ Status.WriteFault → IfSome (F.state folder.old).files
         (CanBeDone (Job.Rasterize job.now)) }
 {

@@ -29,13 +29,20 @@ pub fn say_line<S: Sink>(sink: &mut S, name: &str, text: &str)
     let _ = say_three(sink, name.as_bytes(), text.as_bytes(), b"");
 }
 
+/// Hands the line of a text with a number behind it to a sink.
+pub(crate) fn say_counted<S: Sink>(sink: &mut S, text: &str, number: u64) -> Result<(), Trouble>
+    ensures { Says (text.now ++ decimal number ++ codes "\n") result (S.state sink.old) (S.state sink.new) }
+{
+    let mut digits = Buffer::new();
+    let number = digits.format(number).as_bytes();
+    say_three(sink, text.as_bytes(), number, b"\n")
+}
+
 /// Writes the line of a text with a number behind it. A sink that fails is let be.
 pub fn say_number<S: Sink>(sink: &mut S, text: &str, number: u64)
     ensures { SaysLine (text.now ++ decimal number ++ codes "\n") (S.state sink.old) (S.state sink.new) }
 {
-    let mut digits = Buffer::new();
-    let number = digits.format(number).as_bytes();
-    let _ = say_three(sink, text.as_bytes(), number, b"\n");
+    let _ = say_counted(sink, text, number);
 }
 
 fn word_text(kind: WordKind) -> &'static str

@@ -11,7 +11,7 @@ ghost use Rattle.ogr_csv.specs.Rows.{line_of};
 ghost use Rattle.tool_outcome.specs.Outcome.{CanBeDone, Does, LeavesPart};
 ghost use Rattle.tool_outcome.specs.Polygonize.{header_row, path_of, paths_of, point_of, row_of, value_of};
 ghost use Rattle.tool_outcome.specs.Status.{IsDecided, status_of};
-ghost use Rattle.tool_run.specs.Causes.{HasCauses};
+ghost use Rattle.tool_run.specs.Causes.{HasCauses, IsToolFault};
 ghost use Rattle.tool_run.specs.Inner.Rows.{AreComponents, AreRowsOver, AreTraced, polygon_at};
 ghost use Rattle.tool_run.specs.Inner.Layer.{HasRow, HasShape, HasShapeText, layer_left, rows_left};
 ghost use Rattle.wkt_text.specs.Geometry.{IsWritable};
@@ -366,6 +366,7 @@ pub fn polygonize<F: Folder>(
     // Each fault of the folder has its cause, and no call that failed is passed over.
     ensures causes { HasCauses (status_of result) (F.state folder.old) (F.state folder.new) }
     ensures read_same { status_of result ≡ Status.ReadFault → (F.state folder.new).files ≡ (F.state folder.old).files }
+    ensures kind { IfErr result IsToolFault }
     ensures write_done { status_of result ≡ Status.WriteFault → IfSome (F.state folder.old).files (CanBeDone (Job.Polygonize job.now)) }
 {
     let asc = read_source(alloc, folder, job.source.as_str())?;

@@ -5,8 +5,9 @@ ghost use Rattle.tool_outcome.specs.Outcome.{Meets, WordsCanBeDone, WordsLeavePa
 ghost use Rattle.tool_outcome.specs.Status.{IsDecided, status_of, status_of_grid, status_of_kind, status_of_words};
 ghost use Rattle.tool_words.specs.Job.{job_of};
 ghost use Rattle.round_trip.specs.RoundTrip.{MakesRoundTrip};
-ghost use Rattle.tool_run.specs.Causes.{HasCauses};
+ghost use Rattle.tool_run.specs.Causes.{HasCausesOf, LeavesFolder};
 ghost use Rattle.tool_run.specs.Line.{SaysLine};
+ghost use Rattle.tool_run.specs.Printed.{IsPrinted, IsQuiet, Prints};
 
 use crate::jobs::{dest_name, do_job, source_name};
 use crate::layer_message::{say_frame, say_layer, say_record};
@@ -102,11 +103,11 @@ fn report<E: Sink>(source: &str, dest: &str, answer: Result<(), Fault>, err: &mu
 }
 
 /// Does all that the program does: it takes the words after the program's name, works in the folder, writes
-/// at most one line to `err`, and answers the status. Nothing goes to `out` yet.
+/// at most one line to `err`, prints to `out` what `check` prints, and answers the status.
 ///
-/// Where the folder tells its files, the status, the line and the files afterwards are those of the outcome,
-/// unless a call of the folder failed or memory ran out; then the files are as before, or the destination
-/// holds a first part of its bytes.
+/// Where the folder tells its files, the status, the line, the files afterwards and what was printed are those of
+/// the outcome, unless a call of the folder or of `out` failed or memory ran out; then the files are as before, or
+/// the destination holds a first part of its bytes, and `out` has a first part of what is printed.
 pub fn run<F: Folder, O: Sink, E: Sink>(
     alloc: Global,
     words: &Words,
@@ -114,8 +115,9 @@ pub fn run<F: Folder, O: Sink, E: Sink>(
     out: &mut O,
     err: &mut E,
 ) -> Status
-    ensures outcome { (line : List ℕ) × IsLine (job_of words.now) result line × SaysLine line (E.state err.old) (E.state err.new)
-        × (IsDecided result → IfSome (F.state folder.old).files (λ files. Meets words.now files result line (F.state folder.new).files)) }
+    ensures outcome { (line printed : List ℕ) × IsLine (job_of words.now) result line × SaysLine line (E.state err.old) (E.state err.new)
+        × IsPrinted (job_of words.now) result printed × Prints printed result (O.state out.old) (O.state out.new)
+        × (IsDecided result → IfSome (F.state folder.old).files (λ files. Meets words.now files result line printed (F.state folder.new).files)) }
     ensures part { result ≢ Status.Done → IfSome (F.state folder.old).files
         (λ files. WordsLeavePart (job_of words.now) files (F.state folder.new).files) }
 
@@ -126,18 +128,19 @@ pub fn run<F: Folder, O: Sink, E: Sink>(
     // The words alone decide these, whatever the folder.
     ensures usage { IsErr (job_of words.now) → result ≡ Status.Usage }
     ensures not_usage { result ≡ Status.Usage → IsErr (job_of words.now) }
-    ensures refused { IsErr (job_of words.now) → folder.new ≡ folder.old }
+    ensures alone { LeavesFolder (job_of words.now) → folder.new ≡ folder.old }
+    ensures quiet { IsQuiet (job_of words.now) → out.new ≡ out.old }
 
-    // Each fault of the folder has its cause, and no call that failed is passed over.
-    ensures causes { HasCauses result (F.state folder.old) (F.state folder.new) }
+    // Each fault of the folder and of `out` has its cause, and no call that failed is passed over.
+    ensures causes { HasCausesOf (job_of words.now) result (F.state folder.old) (F.state folder.new)
+        (O.state out.old) (O.state out.new) }
     ensures read_same { result ≡ Status.ReadFault → (F.state folder.new).files ≡ (F.state folder.old).files }
     ensures write_done { result ≡ Status.WriteFault → IfSome (F.state folder.old).files (WordsCanBeDone (job_of words.now)) }
-    ensures out { out.new ≡ out.old }
 {
     let job = match read_words(alloc, words) {
         Ok(job) => job,
         Err(fault) => return refuse(fault, err),
     };
-    let answer = do_job(alloc, &job, folder);
+    let answer = do_job(alloc, &job, folder, out);
     report(source_name(&job), dest_name(&job), answer, err)
 }

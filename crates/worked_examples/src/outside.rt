@@ -1,9 +1,13 @@
-// The edges that tell nothing of what they hold: real files and a writer, compared by the system's own calls.
+// The edges that tell nothing of what they hold, real files and a writer, compared by the system's own calls; and
+// folders in memory.
 use asc_grid::{read_grid, write_grid};
 use rv_outside::{
-    FetchFault, Folder, HostFolder, MemorySink, StdSink, Taken, append_all, read_whole, say,
+    FetchFault, Folder, HostFolder, MemoryFolder, MemorySink, StdSink, SureFolder, Taken,
+    append_all, read_whole, say,
 };
+use std::alloc::Global;
 use std::fs;
+use std::process::Abort;
 use std::test::Fail;
 
 #[test]
@@ -59,6 +63,59 @@ fn a_real_file_is_read_from_any_offset(rt: HostRuntime) -> Result<(), Fail> {
     assert!(rt; matches!(folder.read_at("a.txt", 10, &mut block), Ok(Taken::End)));
     assert!(rt; folder.append("a.txt", b"xy").is_ok());
     assert!(rt; fs::read(&rt, "a.txt")?.as_slice() == b"0123456789xy".as_slice());
+    Ok(())
+}
+
+/// What a folder gives that has no file of the second name, whether or not it has one of the first.
+fn writes_and_reads<F: Folder>(
+    rt: &impl Abort,
+    alloc: Global,
+    folder: &mut F,
+    name: &str,
+    no_name: &str,
+) -> Result<(), Fail> {
+    assert!(rt; folder.create(name).is_ok());
+    assert!(rt; matches!(read_whole(alloc, folder, name), Ok(bytes) if bytes.is_empty()));
+    assert!(rt; folder.append(name, b"0123456").is_ok());
+    assert!(rt; append_all(folder, name, b"789").is_ok());
+    let read = read_whole(alloc, folder, name);
+    assert!(rt; matches!(&read, Ok(bytes) if bytes.as_slice() == b"0123456789".as_slice()));
+    let mut block = [0u8; 4];
+    assert!(rt; matches!(folder.read_at(name, 5, &mut block), Ok(Taken::Bytes(4))));
+    assert!(rt; block.as_slice() == b"5678".as_slice());
+    assert!(rt; matches!(folder.read_at(name, 8, &mut block), Ok(Taken::Bytes(2))));
+    assert!(rt; block.as_slice() == b"8978".as_slice());
+    assert!(rt; matches!(folder.read_at(name, 10, &mut block), Ok(Taken::End)));
+    assert!(rt; matches!(folder.read_at(no_name, 0, &mut block), Ok(Taken::Missing)));
+    assert!(rt; matches!(read_whole(alloc, folder, no_name), Err(FetchFault::Missing)));
+    Ok(())
+}
+
+#[test]
+fn a_sure_folder_keeps_its_files(rt: HostRuntime) -> Result<(), Fail> {
+    let alloc = rt.alloc();
+    let mut folder = SureFolder::new(alloc);
+    assert!(rt; folder.file("a.txt").is_none());
+    folder.put_file("a.txt", b"first")?;
+    folder.put_file("b.txt", b"other")?;
+    folder.put_file("a.txt", b"in its place")?;
+    assert!(rt; folder.file("a.txt") == Some(b"in its place".as_slice()));
+    writes_and_reads(&rt, alloc, &mut folder, "a.txt", "c.txt")?;
+    assert!(rt; folder.file("a.txt") == Some(b"0123456789".as_slice()));
+    assert!(rt; folder.file("b.txt") == Some(b"other".as_slice()));
+    assert!(rt; folder.file("c.txt").is_none());
+    Ok(())
+}
+
+#[test]
+fn a_folder_in_memory_keeps_its_files(rt: HostRuntime) -> Result<(), Fail> {
+    let alloc = rt.alloc();
+    let mut folder = MemoryFolder::new(alloc);
+    folder.put_file("b.txt", b"other")?;
+    writes_and_reads(&rt, alloc, &mut folder, "a.txt", "c.txt")?;
+    assert!(rt; folder.file("a.txt") == Some(b"0123456789".as_slice()));
+    assert!(rt; folder.file("b.txt") == Some(b"other".as_slice()));
+    assert!(rt; folder.file("c.txt").is_none());
     Ok(())
 }
 

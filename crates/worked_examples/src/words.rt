@@ -3,14 +3,22 @@ use cell_base::{Cell, CellKind};
 use geo_transform::Extent;
 use std::alloc::{AllocError, Global};
 use std::test::Fail;
-use tool_words::{ContourJob, Job, RasterizeJob, SizeFrom, ValueFrom, Words, read_words};
+use tool_words::{
+    CheckJob, ContourJob, Job, RasterizeJob, SizeFrom, ValueFrom, WordFault, WordKind, Words,
+    read_words,
+};
 
-// The job of these words, if they have one.
-fn job_of(alloc: Global, given: &[&str]) -> Result<Option<Job>, AllocError> {
+fn words_of(alloc: Global, given: &[&str]) -> Result<Words, AllocError> {
     let mut words = Words::new(alloc);
     for word in given {
         words.push(word)?;
     }
+    Ok(words)
+}
+
+// The job of these words, if they have one.
+fn job_of(alloc: Global, given: &[&str]) -> Result<Option<Job>, AllocError> {
+    let words = words_of(alloc, given)?;
     Ok(read_words(alloc, &words).ok())
 }
 
@@ -161,5 +169,115 @@ fn a_layer_may_be_named_before_the_field(rt: HostRuntime) -> Result<(), Fail> {
     assert!(rt; names_field(job_of(alloc, &plain)?, "DN", true));
     let named = ["gdal_polygonize", "a", "b", "WKT", "class"];
     assert!(rt; names_field(job_of(alloc, &named)?, "class", false));
+    Ok(())
+}
+
+// Words of check, with the numbers that they name, and the type of the cells.
+const CHECKED: [(&[&str], [u32; 4], CellKind); 6] = [
+    (
+        &["check", "1", "3", "2", "2"],
+        [1, 3, 2, 2],
+        CellKind::Int64,
+    ),
+    (
+        &["check", "-ot", "byte", "-q", "0", "3", "4", "256"],
+        [0, 3, 4, 256],
+        CellKind::Byte,
+    ),
+    (
+        &["check", "1", "5", "-ot", "INT16", "-q", "2", "007"],
+        [1, 5, 2, 7],
+        CellKind::Int16,
+    ),
+    (
+        &["check", "1", "3", "2", "1", "-q", "-ot", "Int32"],
+        [1, 3, 2, 1],
+        CellKind::Int32,
+    ),
+    (
+        &["check", "-ot", "Byte", "1", "3", "-ot", "Int16", "2", "2"],
+        [1, 3, 2, 2],
+        CellKind::Int16,
+    ),
+    (
+        &["check", "2147483647", "2147483646", "2147483647", "2"],
+        [2_147_483_647, 2_147_483_646, 2_147_483_647, 2],
+        CellKind::Int64,
+    ),
+];
+
+fn checks(job: Option<Job>, numbers: [u32; 4], kind: CellKind) -> bool {
+    let [seed, width, height, values] = numbers;
+    match job {
+        Some(Job::Check(job)) => {
+            job == (CheckJob {
+                seed,
+                width,
+                height,
+                values,
+                kind,
+            })
+        }
+        _ => false,
+    }
+}
+
+#[test]
+fn check_is_given_four_numbers(rt: HostRuntime) -> Result<(), Fail> {
+    for (words, numbers, kind) in CHECKED {
+        assert!(rt; checks(job_of(rt.alloc(), words)?, numbers, kind));
+    }
+    Ok(())
+}
+
+// Words of check that are refused, with what is wrong and its place.
+const REFUSED: [(&[&str], WordKind, u64); 15] = [
+    (&["check"], WordKind::MissingName, 2),
+    (&["check", "1", "3", "2"], WordKind::MissingName, 5),
+    (&["check", "1", "3", "2", "2", "9"], WordKind::ExtraWord, 6),
+    (&["check", "1", "0", "2", "2"], WordKind::BadValue, 3),
+    (&["check", "1", "3", "0", "2"], WordKind::BadValue, 4),
+    (&["check", "1", "3", "2", "257"], WordKind::BadValue, 5),
+    (&["check", "1", "3", "2", "0"], WordKind::BadValue, 5),
+    (
+        &["check", "2147483648", "3", "2", "2"],
+        WordKind::BadValue,
+        2,
+    ),
+    (&["check", "x", "3", "2", "2"], WordKind::BadValue, 2),
+    (&["check", "-1", "3", "2", "2"], WordKind::UnknownOption, 2),
+    (
+        &["check", "1", "3", "2", "2", "-ot", "Float32"],
+        WordKind::BadValue,
+        7,
+    ),
+    (
+        &["check", "1", "3", "2", "2", "-ot"],
+        WordKind::MissingValue,
+        6,
+    ),
+    (
+        &["check", "1", "3", "2", "2", "-st", "2"],
+        WordKind::UnknownOption,
+        6,
+    ),
+    (&["check", "-ot", "1", "3", "2", "2"], WordKind::BadValue, 3),
+    (&["Check", "1", "3", "2", "2"], WordKind::UnknownTool, 1),
+];
+
+fn is_refused(read: Result<Job, WordFault>, wrong: WordKind, at: u64) -> bool {
+    match read {
+        Err(WordFault::At { kind, place }) => kind == wrong && place == at,
+        _ => false,
+    }
+}
+
+#[test]
+fn the_first_fault_of_the_words_of_check_is_told(rt: HostRuntime) -> Result<(), Fail> {
+    let alloc = rt.alloc();
+    for (given, wrong, at) in REFUSED {
+        let words = words_of(alloc, given)?;
+        assert!(rt; is_refused(read_words(alloc, &words), wrong, at));
+    }
     Ok(())
 }

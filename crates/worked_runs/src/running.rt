@@ -30,16 +30,13 @@ impl Ran {
     pub fn said(&self, line: &[u8]) -> bool {
         self.err.bytes() == line && self.out.bytes().is_empty()
     }
+
+    pub fn printed(&self, text: &[u8]) -> bool {
+        self.out.bytes() == text && self.err.bytes().is_empty()
+    }
 }
 
-// A run over these words, and more behind them.
-pub fn run_with(
-    alloc: Global,
-    given: &[&str],
-    more: &[&str],
-    mut folder: MemoryFolder,
-    mut err: MemorySink,
-) -> Result<Ran, AllocError> {
+pub fn words_of(alloc: Global, given: &[&str], more: &[&str]) -> Result<Words, AllocError> {
     let mut words = Words::new(alloc);
     for word in given {
         words.push(word)?;
@@ -47,8 +44,30 @@ pub fn run_with(
     for word in more {
         words.push(word)?;
     }
-    let mut out = MemorySink::new(alloc);
-    let status = run(alloc, &words, &mut folder, &mut out, &mut err);
+    Ok(words)
+}
+
+// A run over these words, and more behind them.
+pub fn run_with(
+    alloc: Global,
+    given: &[&str],
+    more: &[&str],
+    folder: MemoryFolder,
+    err: MemorySink,
+) -> Result<Ran, AllocError> {
+    let words = words_of(alloc, given, more)?;
+    run_into(alloc, &words, folder, MemorySink::new(alloc), err)
+}
+
+// A run that prints to `out`.
+pub fn run_into(
+    alloc: Global,
+    words: &Words,
+    mut folder: MemoryFolder,
+    mut out: MemorySink,
+    mut err: MemorySink,
+) -> Result<Ran, AllocError> {
+    let status = run(alloc, words, &mut folder, &mut out, &mut err);
     Ok(Ran {
         status,
         folder,
