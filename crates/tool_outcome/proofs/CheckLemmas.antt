@@ -14,7 +14,7 @@ one_text job asc a b one two =
     let second = two.is_layer in
     let layer : one.layer ≡ two.layer = one_layer layer_job asc one.layer two.layer first second in
     let count : length first.regions.firsts ≡ length second.regions.firsts =
-        ap (λ r. length r.firsts) (one_table four asc first.valid second.valid first.regions second.regions first.mask second.mask first.labelled second.labelled) in
+    ap (λ r. length r.firsts) (one_table four asc first.valid second.valid first.regions second.regions first.mask second.mask first.labelled second.labelled) in
     let cells : ℕ = job.width * job.height in
     one.is
     ∙ ap (λ n. check_lines cells n (length one.layer)) count

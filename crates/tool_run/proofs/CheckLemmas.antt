@@ -56,7 +56,6 @@ grid_made job cells fits few is = sym (raster_is made (pos 0) at (raster_from_ce
 
     long : length cells ≡ job.width * job.height
     long = ap length is ∙ length-map-range_with_len (drawn_value job) 0 (job.width * job.height)
-
     full = record { some_cols = omega (arith, fits.width_from_one); some_rows = omega (arith, fits.height_from_one); small = few; count = long }
 
     each : (p : Place) (x : ℤ) → IsInside made p → value_at made p ≡ Some x → at p ≡ x
@@ -187,7 +186,7 @@ after_layer : (job : CheckJob) (files : Files) (mid late : Option Files) → Wro
     → (written : List ℕ) × IsLayerOf job written × (late ≡ Some (with_layer written (with_grid (text_of (checked_grid job)) files)))
 after_layer job files mid late was =
     let there : OverGrid job (Some (with_grid (text_of (checked_grid job)) files)) (λ fs. HasLayer job fs late) =
-        subst (λ (o : Option Files). OverGrid job o (λ fs. HasLayer job fs late)) was.grid.wrote was.wrote in
+    subst (λ (o : Option Files). OverGrid job o (λ fs. HasLayer job fs late)) was.grid.wrote was.wrote in
     there (with_told layer_job.source (text_of (checked_grid job)) files)
 
 pub has_checked : (job : CheckJob) (old mid late new : Option Files) → WroteLayer job old mid late
@@ -197,7 +196,7 @@ has_checked job (Some files) mid late new was back =
     let after = after_layer job files mid late was in
     let grid : Files = with_grid (text_of (checked_grid job)) files in
     let there : OverLayer job (Some (with_layer after.0 grid)) (λ fs. new ≡ Some (with_back job (text_of (checked_grid job)) fs)) =
-        subst (λ (o : Option Files). OverLayer job o (λ fs. new ≡ Some (with_back job (text_of (checked_grid job)) fs))) after.2 back in
+    subst (λ (o : Option Files). OverLayer job o (λ fs. new ≡ Some (with_back job (text_of (checked_grid job)) fs))) after.2 back in
     (after.0, after.1, there after.0 after.1 (with_told layer_job.dest after.0 grid))
 
 -- what a refusal leaves
@@ -227,7 +226,7 @@ pub leaves_layer : (job : CheckJob) (old mid new : Option Files) → WroteGrid j
 leaves_layer job None mid new was part = tt
 leaves_layer job (Some files) mid new was part =
     let there : OverGrid job (Some (with_grid (text_of (checked_grid job)) files)) (λ fs. HasLayerPart job fs new) =
-        subst (λ (o : Option Files). OverGrid job o (λ fs. HasLayerPart job fs new)) was.wrote part in
+    subst (λ (o : Option Files). OverGrid job o (λ fs. HasLayerPart job fs new)) was.wrote part in
     elim (there (with_told layer_job.source (text_of (checked_grid job)) files)) [
       | inl same ↦ whole_grid job files new same
       | inr some ↦ inr (inr (inl (some.0, some.1, some.2, some.3)))
@@ -239,7 +238,7 @@ leaves_back job (Some files) mid late new was part =
     let after = after_layer job files mid late was in
     let grid : Files = with_grid (text_of (checked_grid job)) files in
     let there : OverLayer job (Some (with_layer after.0 grid)) (λ fs. HasBackPart job fs new) =
-        subst (λ (o : Option Files). OverLayer job o (λ fs. HasBackPart job fs new)) after.2 part in
+    subst (λ (o : Option Files). OverLayer job o (λ fs. HasBackPart job fs new)) after.2 part in
     elim (there after.0 after.1 (with_told layer_job.dest after.0 grid)) [
       | inl same ↦ inr (inr (inl (after.0, length after.0, after.1, same ∙ ap (λ (bytes : List ℕ). Some (with_layer bytes grid)) (sym (all_of after.0)))))
       | inr some ↦ inr (inr (inr (after.0, some.0, after.1, some.1)))
@@ -266,7 +265,7 @@ pub layer_fault : (job : CheckJob) (old mid : Option Files) (offence : Fault) �
 layer_fault job None mid offence was cut = tt
 layer_fault job (Some files) mid offence was cut =
     let there : OverGrid job (Some (with_grid (text_of (checked_grid job)) files)) (λ fs. IsCutOff offence) =
-        subst (λ (o : Option Files). OverGrid job o (λ fs. IsCutOff offence)) was.wrote cut in
+    subst (λ (o : Option Files). OverGrid job o (λ fs. IsCutOff offence)) was.wrote cut in
     cut_is_fault job offence (there (with_told layer_job.source (text_of (checked_grid job)) files))
 
 pub back_fault : (job : CheckJob) (old mid late : Option Files) (offence : Fault) → WroteLayer job old mid late → OverLayer job late (λ files. IsCutOff offence) → IfSome old (λ files. IsCheckFault job offence)
@@ -275,7 +274,7 @@ back_fault job (Some files) mid late offence was cut =
     let after = after_layer job files mid late was in
     let grid : Files = with_grid (text_of (checked_grid job)) files in
     let there : OverLayer job (Some (with_layer after.0 grid)) (λ fs. IsCutOff offence) =
-        subst (λ (o : Option Files). OverLayer job o (λ fs. IsCutOff offence)) after.2 cut in
+    subst (λ (o : Option Files). OverLayer job o (λ fs. IsCutOff offence)) after.2 cut in
     cut_is_fault job offence (there after.0 after.1 (with_told layer_job.dest after.0 grid))
 
 -- counts of steps, one after the other

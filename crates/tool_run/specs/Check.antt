@@ -74,6 +74,6 @@ abbrev pub EndsCheck : CheckJob → Result (Unit {0}) Fault → SinkState → Si
 EndsCheck job result old new =
     let cells = job.width * job.height in
     ((text : List ℕ) × (answer : Result (Unit {0}) Trouble) × IsCheckAnswer job (Ok text) × Says text answer old new
-        × (result ≡ ends_with answer))
+    × (result ≡ ends_with answer))
     ⊎ ((new ≡ old) × ((result ≡ Err fault.NoMemory)
-        ⊎ ((most_cells < cells) × (result ≡ Err (fault.Frame (TooLarge cells))))))
+    ⊎ ((most_cells < cells) × (result ≡ Err (fault.Frame (TooLarge cells))))))

@@ -29,6 +29,6 @@ pub use program::run;
 pub use sieve::sieve_tool;
 pub use tool_outcome::{Fault, Role, Status};
 pub use tool_words::{
-    CheckJob, ContourJob, Job, MaskFrom, MicroList, Name, PolygonizeJob, RasterizeJob, SieveJob, SizeFrom,
-    ValueFrom, WordFault, WordKind, Words, read_words,
+    CheckJob, ContourJob, Job, MaskFrom, MicroList, Name, PolygonizeJob, RasterizeJob, SieveJob,
+    SizeFrom, ValueFrom, WordFault, WordKind, Words, read_words,
 };

@@ -18,14 +18,12 @@ const SMALL: CheckJob = CheckJob {
     kind: CellKind::Int64,
 };
 
-const SMALL_GRID: &[u8] =
-    b"ncols 3\nnrows 2\nxllcorner 0\nyllcorner 0\ncellsize 1\n0 0 1\n1 1 1\n";
+const SMALL_GRID: &[u8] = b"ncols 3\nnrows 2\nxllcorner 0\nyllcorner 0\ncellsize 1\n0 0 1\n1 1 1\n";
 
 const SMALL_LAYER: &[u8] =
     b"WKT,DN\n\"POLYGON ((0 2,0 1,2 1,2 2,0 2))\",0\n\"POLYGON ((2 2,2 1,0 1,0 0,3 0,3 2,2 2))\",1\n";
 
-const ZEROS: &[u8] =
-    b"ncols 3\nnrows 2\nxllcorner 0\nyllcorner 0\ncellsize 1\n0 0 0\n0 0 0\n";
+const ZEROS: &[u8] = b"ncols 3\nnrows 2\nxllcorner 0\nyllcorner 0\ncellsize 1\n0 0 0\n0 0 0\n";
 
 // Words of check, and what each prints. The numbers of the larger grids are those of a labelling and a tracing that were
 // written apart from this program.
@@ -147,10 +145,10 @@ impl OtherLayer {
 
 impl Folder for OtherLayer {
     ghost state = { λ folder. record {
-        files = None;
-        read_faults = (memory_state folder.under).read_faults;
-        write_faults = (memory_state folder.under).write_faults;
-        missing = (memory_state folder.under).missing;
+      files = None;
+      read_faults = (memory_state folder.under).read_faults;
+      write_faults = (memory_state folder.under).write_faults;
+      missing = (memory_state folder.under).missing;
     } };
 
     fn read_at(&mut self, name: &str, offset: u64, into: &mut [u8]) -> Result<Taken, Trouble> {
@@ -191,7 +189,11 @@ fn the_layer_that_is_read_is_burned(rt: HostRuntime) -> Result<(), Fail> {
 #[test]
 fn a_folder_that_never_fails_serves_a_run(rt: HostRuntime) -> Result<(), Fail> {
     let alloc = rt.alloc();
-    let words = words_of(alloc, &["gdal_sieve", "-st", "1", "src.asc", "dst.asc"], &[])?;
+    let words = words_of(
+        alloc,
+        &["gdal_sieve", "-st", "1", "src.asc", "dst.asc"],
+        &[],
+    )?;
     let mut folder = SureFolder::new(alloc);
     folder.put_file("src.asc", GRID)?;
     let mut out = MemorySink::new(alloc);
