@@ -1,6 +1,7 @@
 -- Worked examples of what check makes.
 use Rattle.std.proofs.Common.{◌≡◌, ℕ, ℤ, [], ◌∷◌, pos, refl, Err}
 use Rattle.std.specs.Prelude.{codes}
+use Rattle.std.specs.Fmt.{digits}
 use Rattle.cell_base.specs.declared.kind.CellKind.TheVariants.{Int64}
 use Rattle.geo_transform.specs.declared.fault.FrameFault.TheVariants.{TooLarge}
 use Rattle.tool_words.specs.declared.job.CheckJob.{CheckJob}
@@ -8,7 +9,7 @@ use Rattle.tool_outcome.specs.Check.{check_lines, checked_grid, grid_to_check, n
 use Rattle.tool_outcome.specs.declared.fault.Fault.TheVariants.{Frame as FrameOf}
 
 -- 3 columns and 2 rows of two values
-small : CheckJob
+abbrev small : CheckJob
 small = record { seed = 1; width = 3; height = 2; values = 2; kind = Int64 }
 
 numbers : (number_in_turn 1 1 ≡ 1103527590) × (number_in_turn 1 2 ≡ 377401575) × (number_in_turn 1 3 ≡ 662824084)
@@ -22,4 +23,5 @@ too_large : grid_to_check (record { seed = 1; width = 5000; height = 5000; value
 too_large = refl
 
 lines : check_lines 6 2 87 ≡ codes "cells 6\npolygons 2\nlayer 87\nsame\n"
+unfolding digits
 lines = refl
