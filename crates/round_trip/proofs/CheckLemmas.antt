@@ -1,6 +1,6 @@
 -- The grid that check makes can be written and read, and its layer is burned back to it in each type of cells.
-use Rattle.std.proofs.Common.{◌≡◌, ℕ, ℤ, suc, ◌*◌, ◌<◌, ◌≤◌, ◌^◌, false, List, [], Option, Some, None, Ok, length, get_or, pos, refl, sym, ap, ◌∙◌, subst, arith}
-use Rattle.std.specs.Prelude.{All, int_lt, map, slice_get, unwrap_or}
+use Rattle.std.proofs.Common.{◌≡◌, ℕ, ℤ, suc, ◌+◌, ◌*◌, ◌<◌, ◌≤◌, ◌≤ℤ◌, List, [], Option, Some, None, Ok, length, get_or, pos, refl, sym, ap, ◌∙◌, subst, arith}
+use Rattle.std.specs.Prelude.{◌/◌, ◌%◌, All, map, slice_get, unwrap_or}
 use Rattle.std.specs.List.{range_with_len}
 use Rattle.std.proofs.Math.Nat.{mul-le-mul}
 use Rattle.std.proofs.lemmas.Int.{ints}
@@ -8,6 +8,7 @@ use Rattle.std.proofs.lemmas.List.FromFn.{get_or-map-range_with_len, length-map-
 use Rattle.std.proofs.lemmas.Nat.{mod_below}
 use Rattle.std.proofs.lemmas.Option.{none-some, same_Some, slice_get-get_or}
 use Rattle.rv_outside.specs.Files.{Files}
+use Rattle.cell_base.specs.Clamped.{clamped}
 use Rattle.cell_base.specs.Inner.Laws.{whole_reads}
 use Rattle.cell_base.specs.Raster.{IsRaster, Place, Raster, most_cells, value_at}
 use Rattle.cell_base.specs.WholeCells.{least_byte, least_int16, least_int32, least_int64, most_byte, most_int16, most_int32, most_int64}
@@ -116,24 +117,15 @@ checked_is_grid job fits few = record {
   nodata = λ n is. absurd (none-some n is);
 }
 
+clamped_same : (low high v : ℤ) → low ≤ℤ v → v ≤ℤ high → clamped low high v ≡ v
+clamped_same low high v above below = grind (arith, ints)
+
 -- each type holds what is less than 256
 held_small : (kind : CellKind) (n : ℕ) → n < 256 → held kind (pos n) ≡ pos n
-held_small Byte n small =
-    let low : int_lt (pos n) least_byte ≡ false = grind (arith, ints) in
-    let high : int_lt most_byte (pos n) ≡ false = grind (arith, ints, small) in
-    rw (low, high) refl
-held_small Int16 n small =
-    let low : int_lt (pos n) least_int16 ≡ false = grind (arith, ints) in
-    let high : int_lt most_int16 (pos n) ≡ false = grind (arith, ints, small) in
-    rw (low, high) refl
-held_small Int32 n small =
-    let low : int_lt (pos n) least_int32 ≡ false = grind (arith, ints) in
-    let high : int_lt most_int32 (pos n) ≡ false = grind (arith, ints, small) in
-    rw (low, high) refl
-held_small Int64 n small =
-    let low : int_lt (pos n) least_int64 ≡ false = grind (arith, ints) in
-    let high : int_lt most_int64 (pos n) ≡ false = grind (arith, ints, small) in
-    rw (low, high) refl
+held_small Byte n small = clamped_same least_byte most_byte (pos n) (omega (arith, ints)) (omega (arith, ints, small))
+held_small Int16 n small = clamped_same least_int16 most_int16 (pos n) (omega (arith, ints)) (omega (arith, ints, small))
+held_small Int32 n small = clamped_same least_int32 most_int32 (pos n) (omega (arith, ints)) (omega (arith, ints, small))
+held_small Int64 n small = clamped_same least_int64 most_int64 (pos n) (omega (arith, ints)) (omega (arith, ints, small))
 
 checked_is_held : (job : CheckJob) → FitsCheck job → job.width * job.height ≤ most_cells → (kind : CellKind) → IsHeldIn kind (checked_grid job)
 checked_is_held job fits few kind = record {
