@@ -161,4 +161,4 @@ pub checked_again : (job : CheckJob) (layer : List ℕ) (files : Files) → Fits
     → IsPolygonizeText layer_job (checked_grid job) layer → files layer_job.dest ≡ Some layer
     → rasterize_answer (burn_job job) files ≡ Ok (text_of (checked_grid job))
 checked_again job layer files fits few is_layer told =
-    answer_in job.kind (checked_grid job) layer_job layer layer_job.dest _ files (checked_is_grid job fits few) (checked_is_held job fits few job.kind) refl refl is_layer told
+    answer_in job.kind (checked_grid job) layer_job layer layer_job.dest (burn_job job).dest files (checked_is_grid job fits few) (checked_is_held job fits few job.kind) refl refl is_layer told
