@@ -1,6 +1,6 @@
 -- How check ends, as the end of a run.
 use Rattle.std.proofs.Common.{◌≡◌, ◌≢◌, inl, inr, ℕ, ◌*◌, ◌<◌, ◌≤◌, true, false, List, [], Option, Some, None, Result, Ok, Err, IfSome, OnErr, IsErrOf, length, refl, sym, ap, ◌∙◌, subst, arith}
-use Rattle.std.specs.Prelude.{nat_lt}
+use Rattle.std.specs.Prelude.{nat_lt, unwrap_or}
 use Rattle.std.proofs.lemmas.Bool.Decides.{nat_tests}
 use Rattle.rv_outside.specs.Causes.{Counts}
 use Rattle.rv_outside.specs.Files.{Files}
@@ -10,9 +10,11 @@ use Rattle.rv_outside.specs.declared.folder.Trouble.TheVariants as trouble
 use Rattle.cell_base.specs.Raster.{most_cells}
 use Rattle.geo_transform.specs.declared.fault.FrameFault.TheVariants.{TooLarge}
 use Rattle.tool_words.specs.declared.job.CheckJob.{CheckJob}
+use Rattle.tool_words.specs.declared.job.Job.{Job}
 use Rattle.tool_words.specs.declared.job.Job.TheVariants.{Check}
 use Rattle.tool_outcome.specs.Check.{IsCheckAnswer, IsCheckText, check_lines, checked_grid, layer_job}
 use Rattle.tool_outcome.specs.Outcome.{CanBeDone, DoesPrinting, LeavesPart}
+use Rattle.tool_outcome.specs.Source.{text_of}
 use Rattle.tool_outcome.specs.Status.{IsDecided, status_of}
 use Rattle.tool_outcome.specs.declared.fault.Fault.{Fault}
 use Rattle.tool_outcome.specs.declared.fault.Fault.TheVariants as fault
@@ -20,7 +22,7 @@ use Rattle.tool_outcome.specs.declared.status.Status.{Status}
 use Rattle.tool_outcome.specs.declared.status.Status.TheVariants as status
 use Rattle.tool_outcome.proofs.PolygonizeLemmas.{one_table}
 use Rattle.tool_run.specs.Causes.{HasOutCauses}
-use Rattle.tool_run.specs.Check.{CountsComponents, EndsCheck, IsLayerOf, ends_with}
+use Rattle.tool_run.specs.Check.{CountsComponents, EndsCheck, HasChecked, IsLayerOf, ends_with, with_back, with_grid, with_layer}
 use Rattle.tool_run.specs.Printed.{IsPrinted, Prints}
 use Rattle.tool_run.proofs.JobLemmas.{prints_nothing}
 
@@ -46,6 +48,29 @@ lines_are job layer count few is_layer (valid, regions, mask, labelled, is) =
       is_layer = is_layer;
       is = ap (λ (n : ℕ). check_lines (job.width * job.height) n (length layer)) (is ∙ ap (λ r. length r.firsts) same);
     })
+
+-- the layer's length is that of its file
+layer_length : (job : CheckJob) (layer : List ℕ) (files now : Files)
+    → ◌≡◌ {A = Option Files} (Some now) (Some (with_back job (text_of (checked_grid job)) (with_layer layer (with_grid (text_of (checked_grid job)) files))))
+    → length (unwrap_or (now layer_job.dest) []) ≡ length layer
+layer_length job layer files now is = ap (λ (o : Option Files). length (unwrap_or (at_dest o) [])) is
+  where
+    at_dest : Option Files → Option (List ℕ)
+    at_dest None = None
+    at_dest (Some fs) = fs layer_job.dest
+
+-- what was counted over a folder that tells its files is what is printed
+pub check_said : (job : CheckJob) (cells polygons bytes count : ℕ) (files now : Files) (answer : Result (Unit {0}) Trouble) (result : Result (Unit {0}) Fault) (before after : SinkState)
+    → job.width * job.height ≤ most_cells → cells ≡ job.width * job.height → polygons ≡ count → bytes ≡ length (unwrap_or (now layer_job.dest) [])
+    → HasChecked job files (Some now) → CountsComponents (checked_grid job) count
+    → Says (check_lines cells polygons bytes) answer before after → result ≡ ends_with answer → EndsCheck job result before after
+check_said job cells polygons bytes count files now answer result before after few cells_is polygons_is bytes_is (layer, is_layer, now_is) counts says ends =
+    let long : bytes ≡ length layer = bytes_is ∙ layer_length job layer files now now_is in
+    let lines : check_lines cells polygons bytes ≡ check_lines (job.width * job.height) count (length layer) =
+    ap (λ (n : ℕ). check_lines n polygons bytes) cells_is
+    ∙ ap (λ (n : ℕ). check_lines (job.width * job.height) n bytes) polygons_is
+    ∙ ap (check_lines (job.width * job.height) count) long in
+    inl (check_lines cells polygons bytes, answer, subst (λ (text : List ℕ). IsCheckAnswer job (Ok text)) (sym lines) (lines_are job layer count few is_layer counts), says, ends)
 
 -- the end as a job's
 
@@ -139,3 +164,12 @@ pub check_leaves : (job : CheckJob) (files : Option Files) (result : Result (Uni
 check_leaves job files (Ok u) = tt
 check_leaves job None (Err offence) = tt
 check_leaves job (Some files) (Err offence) = inl refl
+
+-- the same of a job that is one of check
+
+pub check_for : (job : Job) (made : CheckJob) (files : Option Files) (result : Result (Unit {0}) Fault) (before after : SinkState) → job ≡ Check made → EndsCheck made result before after
+    → (printed : List ℕ) × IsPrinted (Ok job) (status_of result) printed × Prints printed (status_of result) before after
+    × (IsDecided (status_of result) → IfSome files (λ fs. DoesPrinting job fs result printed files))
+check_for job made files result before after is ends =
+    subst (λ j. (printed : List ℕ) × IsPrinted (Ok j) (status_of result) printed × Prints printed (status_of result) before after
+    × (IsDecided (status_of result) → IfSome files (λ fs. DoesPrinting j fs result printed files))) (sym is) (check_ends made files result before after ends)

@@ -2,7 +2,7 @@
 use Rattle.std.proofs.Common.{◌≡◌, ◌≢◌, ◌∙◌, ◌⊎◌, inl, inr, ℕ, ℤ, ◌+◌, ◌*◌, ◌<◌, ◌≤◌, true, false, List, [], Option, Some, None, Result, Ok, Err, OnErr, OnOk, IfErr, IfSome, IsErrOf, IfOk, length, take, map, refl, sym, ap, subst, arith}
 use Rattle.std.specs.Prelude.{pos, slice_get}
 use Rattle.std.specs.List.{range_with_len}
-use Rattle.std.proofs.lemmas.List.{take-length}
+use Rattle.std.proofs.lemmas.List.{take_all}
 use Rattle.std.proofs.lemmas.List.FromFn.{length-map-range_with_len}
 use Rattle.std.proofs.lemmas.Option.{same_Some}
 use Rattle.std.proofs.Math.Nat.{mul-le-mul_right}
@@ -10,6 +10,7 @@ use Rattle.rv_outside.specs.Causes.{Counts}
 use Rattle.rv_outside.specs.Files.{Files, Becomes, with_file}
 use Rattle.rv_outside.specs.Folder.{FolderState, OnlyWrites}
 use Rattle.rv_outside.proofs.FilesLemmas.{bytes_eq-itself}
+use Rattle.cell_base.specs.Inner.Cells.{HasCellForEachPlace}
 use Rattle.cell_base.specs.Raster.{Place, Raster, most_cells, raster_of, value_at, IsInside}
 use Rattle.cell_base.proofs.RasterLemmas.{raster_from_cells, value_at-raster_of}
 use Rattle.asc_grid.specs.declared.fault.GridFault.TheVariants as grid
@@ -23,6 +24,8 @@ use Rattle.ogr_csv.specs.declared.fault.LayerFault.TheVariants as layer
 use Rattle.tool_words.specs.Check.{FitsCheck}
 use Rattle.tool_words.specs.declared.job.CheckJob.{CheckJob}
 use Rattle.tool_words.specs.declared.job.Job.TheVariants.{Polygonize, Rasterize}
+use Rattle.tool_words.specs.declared.job.PolygonizeJob.{PolygonizeJob}
+use Rattle.tool_words.specs.declared.job.RasterizeJob.{RasterizeJob}
 use Rattle.tool_outcome.specs.Answer.{Answer, AnswersBy}
 use Rattle.tool_outcome.specs.Check.{checked_grid, drawn_value, layer_job}
 use Rattle.tool_outcome.specs.Outcome.{Does, IsAnswerFor, LeavesPart}
@@ -56,6 +59,8 @@ grid_made job cells fits few is = sym (raster_is made (pos 0) at (raster_from_ce
 
     long : length cells ≡ job.width * job.height
     long = ap length is ∙ length-map-range_with_len (drawn_value job) 0 (job.width * job.height)
+
+    full : HasCellForEachPlace job.width job.height cells
     full = record { some_cols = omega (arith, fits.width_from_one); some_rows = omega (arith, fits.height_from_one); small = few; count = long }
 
     each : (p : Place) (x : ℤ) → IsInside made p → value_at made p ≡ Some x → at p ≡ x
@@ -133,6 +138,25 @@ layer_cut job (Some files) new offence fits few is does = λ told. elim (cut_or_
   | inr decided ↦ absurd (answers_grid job (source_of (files layer_job.source)) (Err offence) (source_is job files fits few told) (does decided).0)
 ]
 
+-- the same of any answer
+
+pub layer_ok : (job : CheckJob) (made : PolygonizeJob) (old new : Option Files) (r : Result (Unit {0}) Fault) → FitsCheck job → job.width * job.height ≤ most_cells
+    → made ≡ layer_job → (IsDecided (status_of r) → IfSome old (λ files. Does (Polygonize made) files r new)) → OnOk r (OverGrid job old (λ files. HasLayer job files new))
+layer_ok job made old new (Ok u) fits few is does = layer_done job old new fits few (subst (λ m. IfSome old (λ files. Does (Polygonize m) files (Ok tt) new)) is (does tt))
+layer_ok job made old new (Err offence) fits few is does = tt
+
+pub layer_err : (job : CheckJob) (made : PolygonizeJob) (old new : Option Files) (r : Result (Unit {0}) Fault) → FitsCheck job → job.width * job.height ≤ most_cells
+    → made ≡ layer_job → OnErr r (IfSome old (λ files. LeavesPart (Polygonize made) files new)) → OnErr r (OverGrid job old (λ files. HasLayerPart job files new))
+layer_err job made old new (Ok u) fits few is part = tt
+layer_err job made old new (Err offence) fits few is part = layer_part job old new fits few (subst (λ m. IfSome old (λ files. LeavesPart (Polygonize m) files new)) is part)
+
+pub layer_kind : (job : CheckJob) (made : PolygonizeJob) (old new : Option Files) (r : Result (Unit {0}) Fault) → FitsCheck job → job.width * job.height ≤ most_cells
+    → made ≡ layer_job → IfErr r IsToolFault → (IsDecided (status_of r) → IfSome old (λ files. Does (Polygonize made) files r new))
+    → IfErr r (λ offence. OverGrid job old (λ files. IsCutOff offence))
+layer_kind job made old new (Ok u) fits few is kind does = tt
+layer_kind job made old new (Err offence) fits few is kind does =
+    layer_cut job old new offence fits few kind (subst (λ m. IsDecided (status_of_fault offence) → IfSome old (λ files. Does (Polygonize m) files (Err offence) new)) is does)
+
 -- the grid that comes back
 
 text_back : (job : CheckJob) (files : Files) (text grid : List ℕ) → Ok text ≡ rasterize_answer (burn_job job) files → rasterize_answer (burn_job job) files ≡ Ok grid → text ≡ grid
@@ -167,6 +191,26 @@ back_cut job (Some files) new offence fits few is does = λ written is_layer tol
       let other : ◌≡◌ {A = Answer} (Err offence) (Ok (text_of (checked_grid job))) = (does decided).0 ∙ checked_again job written files fits few is_layer told in
       absurd (cc other)
 ]
+
+-- the same of any answer
+
+pub back_ok : (job : CheckJob) (made : RasterizeJob) (old new : Option Files) (r : Result (Unit {0}) Fault) → FitsCheck job → job.width * job.height ≤ most_cells
+    → made ≡ burn_job job → (IsDecided (status_of r) → IfSome old (λ files. Does (Rasterize made) files r new))
+    → OnOk r (OverLayer job old (λ files. new ≡ Some (with_back job (text_of (checked_grid job)) files)))
+back_ok job made old new (Ok u) fits few is does = back_done job old new fits few (subst (λ m. IfSome old (λ files. Does (Rasterize m) files (Ok tt) new)) is (does tt))
+back_ok job made old new (Err offence) fits few is does = tt
+
+pub back_err : (job : CheckJob) (made : RasterizeJob) (old new : Option Files) (r : Result (Unit {0}) Fault) → FitsCheck job → job.width * job.height ≤ most_cells
+    → made ≡ burn_job job → OnErr r (IfSome old (λ files. LeavesPart (Rasterize made) files new)) → OnErr r (OverLayer job old (λ files. HasBackPart job files new))
+back_err job made old new (Ok u) fits few is part = tt
+back_err job made old new (Err offence) fits few is part = back_part job old new fits few (subst (λ m. IfSome old (λ files. LeavesPart (Rasterize m) files new)) is part)
+
+pub back_kind : (job : CheckJob) (made : RasterizeJob) (old new : Option Files) (r : Result (Unit {0}) Fault) → FitsCheck job → job.width * job.height ≤ most_cells
+    → made ≡ burn_job job → IfErr r IsToolFault → (IsDecided (status_of r) → IfSome old (λ files. Does (Rasterize made) files r new))
+    → IfErr r (λ offence. OverLayer job old (λ files. IsCutOff offence))
+back_kind job made old new (Ok u) fits few is kind does = tt
+back_kind job made old new (Err offence) fits few is kind does =
+    back_cut job old new offence fits few kind (subst (λ m. IsDecided (status_of_fault offence) → IfSome old (λ files. Does (Rasterize m) files (Err offence) new)) is does)
 
 -- the three steps, one after the other
 
@@ -210,7 +254,7 @@ leaves_grid job None new part = tt
 leaves_grid job (Some files) new part = elim part [ inl same ↦ inl same | inr some ↦ inr (inl (some.0, some.1)) ]
 
 all_of : (text : List ℕ) → take (length text) text ≡ text
-all_of text = take-length text
+all_of text = take_all (length text) text (omega arith)
 
 whole_grid : (job : CheckJob) (files : Files) (new : Option Files) → new ≡ Some (with_grid (text_of (checked_grid job)) files) → LeavesChecked job files new
 whole_grid job files new is =

@@ -1,20 +1,20 @@
 -- What jobs without a text for standard output print: nothing.
-use Rattle.std.proofs.Common.{◌≡◌, ◌≢◌, inl, ℕ, List, [], Option, Some, None, Result, Ok, Err, IfSome, refl}
+use Rattle.std.proofs.Common.{◌≡◌, ◌≢◌, inl, ℕ, List, [], Option, Some, None, Result, Ok, Err, IfSome, OnErr, refl, sym, subst}
 use Rattle.rv_outside.specs.Files.{Files}
 use Rattle.rv_outside.specs.Sink.{SinkState}
 use Rattle.tool_words.specs.declared.fault.WordFault.{WordFault}
 use Rattle.tool_words.specs.declared.job.Job.{Job}
 use Rattle.tool_words.specs.declared.job.Job.TheVariants.{Sieve, Polygonize, Rasterize, Contour, Check}
-use Rattle.tool_outcome.specs.Outcome.{Does, DoesPrinting, printed_of}
+use Rattle.tool_outcome.specs.Outcome.{Does, DoesPrinting, LeavesPart, printed_of}
 use Rattle.tool_outcome.specs.Status.{IsDecided, status_of}
 use Rattle.tool_outcome.specs.declared.fault.Fault.{Fault}
 use Rattle.tool_outcome.specs.declared.status.Status.{Status}
 use Rattle.tool_outcome.specs.declared.status.Status.TheVariants.{Done, Usage, BadInput, Missing, ReadFault, WriteFault, NoMemory, TooLarge}
 use Rattle.tool_run.specs.Printed.{IsPrinted, IsQuiet, Prints}
-use Rattle.tool_run.proofs.MessageLemmas.{says_nothing}
+use Rattle.tool_run.proofs.MessageLemmas.{nothing_said}
 
 pub prints_nothing : (status : Status) (out : SinkState) → Prints [] status out out
-prints_nothing status out = (Ok tt, (says_nothing out).1, λ decided. refl)
+prints_nothing status out = (Ok tt, nothing_said out, λ decided. refl)
 
 -- a run that isn't done can have printed nothing
 pub nothing_printed : (read : Result Job WordFault) (status : Status) → status ≢ Done → IsPrinted read status []
@@ -67,3 +67,17 @@ quiet_ends job old result now out quiet does = (
   prints_nothing (status_of result) out,
   λ decided. quiet_if job old result now quiet (does decided),
 )
+
+-- the same of a job that is another's
+
+pub quiet_for : (job made : Job) (old : Option Files) (result : Result (Unit {0}) Fault) (now : Option Files) (out : SinkState) → job ≡ made → IsQuiet (Ok made)
+    → (IsDecided (status_of result) → IfSome old (λ files. Does made files result now))
+    → (printed : List ℕ) × IsPrinted (Ok job) (status_of result) printed × Prints printed (status_of result) out out
+    × (IsDecided (status_of result) → IfSome old (λ files. DoesPrinting job files result printed now))
+quiet_for job made old result now out is quiet does =
+    subst (λ j. (printed : List ℕ) × IsPrinted (Ok j) (status_of result) printed × Prints printed (status_of result) out out
+    × (IsDecided (status_of result) → IfSome old (λ files. DoesPrinting j files result printed now))) (sym is) (quiet_ends made old result now out quiet does)
+
+pub part_for : (job made : Job) (old : Option Files) (result : Result (Unit {0}) Fault) (now : Option Files) → job ≡ made
+    → OnErr result (IfSome old (λ files. LeavesPart made files now)) → OnErr result (IfSome old (λ files. LeavesPart job files now))
+part_for job made old result now is part = subst (λ j. OnErr result (IfSome old (λ files. LeavesPart j files now))) (sym is) part

@@ -66,19 +66,19 @@ says_before first more trouble old new one =
       leaves = one.leaves;
     }
 
--- an empty line is handed over by doing nothing
+-- an empty text is handed over by doing nothing
+pub nothing_said : (state : SinkState) → Says [] (Ok tt) state state
+nothing_said state = record {
+  said = adds_nothing state.written;
+  part = tt;
+  leaves = record {
+    faults = record { rose = λ no. absurd (cc no); stood = λ _. refl; later = omega arith };
+    wants = record { rose = λ no. absurd (cc no); stood = λ _. refl; later = omega arith };
+  };
+}
+
 pub says_nothing : (state : SinkState) → SaysLine [] state state
-says_nothing state = (
-  Ok tt,
-  record {
-    said = adds_nothing state.written;
-    part = tt;
-    leaves = record {
-      faults = record { rose = λ no. absurd (cc no); stood = λ _. refl; later = omega arith };
-      wants = record { rose = λ no. absurd (cc no); stood = λ _. refl; later = omega arith };
-    };
-  },
-)
+says_nothing state = (Ok tt, nothing_said state)
 
 -- what is wrong with a grid, in its two parts
 text_parts : (kind : GridKind) → grid_text kind ≡ grid_words kind ++ grid_number kind

@@ -1,9 +1,10 @@
 // The tool check.
-ghost use Rattle.std.specs.Prelude.{◌≡◌, ◌*◌, ◌<◌, ◌≤◌, ◌^◌, Err, IfErr, IfOk, IfSome, IsErrOf, OnErr, OnOk, map};
+ghost use Rattle.std.specs.Prelude.{◌≡◌, ◌*◌, ◌<◌, ◌≤◌, ◌^◌, [], Err, IfErr, IfOk, IfSome, IsErrOf, OnErr, OnOk, length, map, unwrap_or};
 ghost use Rattle.std.specs.List.{range_with_len};
 ghost use Rattle.rv_outside.specs.Files.{Becomes};
 ghost use Rattle.rv_outside.specs.Folder.{OnlyWrites};
 ghost use Rattle.rv_outside.specs.Sink.{Says};
+ghost use Rattle.rv_outside.specs.SureFolder.{sure_files};
 ghost use Rattle.cell_base.specs.Raster.{most_cells};
 ghost use Rattle.geo_transform.specs.Frame.{IsFrame};
 ghost use Rattle.geo_transform.specs.declared.fault.FrameFault.TheVariants.{TooLarge};
@@ -252,6 +253,16 @@ fn say_lines<O: Sink>(out: &mut O, cells: u64, polygons: u64, bytes: u64) -> Res
     say(out, b"same\n")
 }
 
+// The length of a file in bytes, and 0 where there is none.
+fn length_of(folder: &SureFolder, name: &str) -> u64
+    ensures { result ≡ length (unwrap_or (sure_files folder.now name.now) []) }
+{
+    match folder.file(name) {
+        Some(bytes) => bytes.len() as u64,
+        None => 0,
+    }
+}
+
 /// Does the runs of check in a folder in memory of its own, and prints what came of them.
 pub(crate) fn check<O: Sink>(alloc: Global, job: &CheckJob, out: &mut O) -> Result<(), Fault>
     requires { FitsCheck job.now }
@@ -260,7 +271,7 @@ pub(crate) fn check<O: Sink>(alloc: Global, job: &CheckJob, out: &mut O) -> Resu
     let mut work = SureFolder::new(alloc);
     let polygons = check_runs(alloc, job, &mut work)?;
     let cells = u64::from(job.width) * u64::from(job.height);
-    let bytes = work.file(LAYER).map_or(0, |layer| layer.len() as u64);
+    let bytes = length_of(&work, LAYER);
     say_lines(out, cells, u64::from(polygons), bytes)?;
     Ok(())
 }
