@@ -1,5 +1,5 @@
 -- What check makes, and what its steps leave.
-use Rattle.std.proofs.Common.{◌≡◌, ◌≢◌, ◌∙◌, ◌⊎◌, inl, inr, ℕ, ℤ, ◌+◌, ◌*◌, ◌<◌, ◌≤◌, true, false, List, [], Option, Some, None, Result, Ok, Err, OnErr, OnOk, IfErr, IfSome, IsErrOf, IfOk, length, take, map, refl, sym, ap, subst, arith}
+use Rattle.std.proofs.Common.{◌≡◌, ◌∙◌, ◌⊎◌, inl, inr, ℕ, ℤ, ◌+◌, ◌*◌, ◌<◌, ◌≤◌, List, Option, Some, None, Result, Ok, Err, OnErr, OnOk, IfErr, IfSome, length, take, map, refl, sym, ap, subst, arith}
 use Rattle.std.specs.Prelude.{pos, slice_get}
 use Rattle.std.specs.List.{range_with_len}
 use Rattle.std.proofs.lemmas.List.{take_all}
@@ -8,7 +8,7 @@ use Rattle.std.proofs.lemmas.Option.{same_Some}
 use Rattle.std.proofs.Math.Nat.{mul-le-mul_right}
 use Rattle.rv_outside.specs.Causes.{Counts}
 use Rattle.rv_outside.specs.Files.{Files, Becomes, with_file}
-use Rattle.rv_outside.specs.Folder.{FolderState, OnlyWrites}
+use Rattle.rv_outside.specs.Folder.{FolderState}
 use Rattle.rv_outside.proofs.FilesLemmas.{bytes_eq-itself}
 use Rattle.cell_base.specs.Inner.Cells.{HasCellForEachPlace}
 use Rattle.cell_base.specs.Raster.{Place, Raster, most_cells, raster_of, value_at, IsInside}
@@ -17,9 +17,7 @@ use Rattle.asc_grid.specs.declared.fault.GridFault.TheVariants as grid
 use Rattle.asc_grid.specs.declared.fault.GridKind.{GridKind}
 use Rattle.asc_grid.specs.declared.fault.GridKind.TheVariants as kind
 use Rattle.asc_grid.specs.declared.grid.Asc.{Asc}
-use Rattle.geo_transform.specs.declared.fault.FrameFault.{FrameFault}
 use Rattle.geo_transform.specs.declared.fault.FrameFault.TheVariants as frame
-use Rattle.ogr_csv.specs.declared.fault.LayerFault.{LayerFault}
 use Rattle.ogr_csv.specs.declared.fault.LayerFault.TheVariants as layer
 use Rattle.tool_words.specs.Check.{FitsCheck}
 use Rattle.tool_words.specs.declared.job.CheckJob.{CheckJob}
@@ -28,7 +26,7 @@ use Rattle.tool_words.specs.declared.job.PolygonizeJob.{PolygonizeJob}
 use Rattle.tool_words.specs.declared.job.RasterizeJob.{RasterizeJob}
 use Rattle.tool_outcome.specs.Answer.{Answer, AnswersBy}
 use Rattle.tool_outcome.specs.Check.{checked_grid, drawn_value, layer_job}
-use Rattle.tool_outcome.specs.Outcome.{Does, IsAnswerFor, LeavesPart}
+use Rattle.tool_outcome.specs.Outcome.{Does, LeavesPart}
 use Rattle.tool_outcome.specs.Polygonize.{IsPolygonizeText}
 use Rattle.tool_outcome.specs.Rasterize.{rasterize_answer}
 use Rattle.tool_outcome.specs.Source.{source_of, text_of}

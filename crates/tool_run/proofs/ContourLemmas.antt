@@ -1,5 +1,5 @@
 -- What gdal_contour leaves.
-use Rattle.std.proofs.Common.{◌≡◌, ◌≤◌, inl, inr, ℕ, ℤ, Bool, List, Option, Some, None, Result, Ok, Err, IfSome, length, refl, subst}
+use Rattle.std.proofs.Common.{◌≡◌, ◌≤◌, inl, inr, ℤ, Bool, List, Option, Some, None, Ok, Err, IfSome, length, refl, subst}
 use Rattle.rv_outside.specs.Files.{Files, Becomes, with_file}
 use Rattle.cell_base.specs.MicroCells.{micro_of}
 use Rattle.cell_base.specs.Raster.{Raster}

@@ -1,8 +1,7 @@
 -- The rows of contour lines, one by one.
-use Rattle.std.proofs.Common.{◌≡◌, ◌≢◌, ◌∙◌, ◌<◌, ◌≤◌, ◌+◌, ◌-◌, ◌*◌, ◌++◌, ◌∷◌, [], inl, inr, ℕ, ℤ, suc, zero, Bool, true, false, if◌then◌else◌, List, Option, Some, None, All, length, map, drop, ap, refl, sym, subst, arith, append_assoc}
-use Rattle.std.specs.Prelude.{AllPairs, Contains, slice_get}
+use Rattle.std.proofs.Common.{◌≡◌, ◌∙◌, ◌≤◌, ◌+◌, ◌-◌, ◌*◌, ◌++◌, ◌∷◌, [], inl, inr, ℕ, ℤ, suc, Bool, true, false, if◌then◌else◌, List, Option, Some, All, length, map, drop, ap, refl, sym, subst, arith, append_assoc}
+use Rattle.std.specs.Prelude.{slice_get}
 use Rattle.std.specs.List.{cons_option, filter_map, flat_map}
-use Rattle.std.proofs.lemmas.Grind.{common_steps}
 use Rattle.std.proofs.lemmas.List.{length-append}
 use Rattle.std.proofs.lemmas.List.Elements.{All-head, All-tail}
 use Rattle.cell_base.specs.Raster.{Place, Raster, most_cells}

@@ -1,5 +1,5 @@
 -- The interval of a job that words give is positive.
-use Rattle.std.proofs.Common.{◌≡◌, ◌∙◌, ◌<ℤ◌, ℤ, Bool, true, false, if◌then◌else◌, List, [], ◌∷◌, Option, Some, None, Result, Ok, Err, codes, pos, refl, sym, ap, subst, arith}
+use Rattle.std.proofs.Common.{◌≡◌, ◌<ℤ◌, ℤ, Bool, true, false, if◌then◌else◌, List, [], ◌∷◌, Option, Some, None, Result, Ok, Err, codes, pos, refl, subst, arith}
 use Rattle.std.specs.Prelude.{int_lt}
 use Rattle.std.specs.List.{fold}
 use Rattle.std.specs.Option.{ForSome}
@@ -12,11 +12,10 @@ use Rattle.tool_words.specs.Value.{decimal_of, kept_if, positive_decimal}
 use Rattle.tool_words.specs.Chosen.{chooses_next, chosen_by, is_piece}
 use Rattle.tool_words.specs.Offence.{first_fault}
 use Rattle.tool_words.specs.Contour.{ContourChoice, contour_chooses, contour_clash, contour_default, contour_grammar, contour_job}
-use Rattle.tool_words.specs.Job.{check_words, contour_words, job_of, polygonize_words, rasterize_words, sieve_words, unless, words_of_tool}
-use Rattle.tool_words.specs.Sieve.{sieve_job}
+use Rattle.tool_words.specs.Job.{check_words, contour_words, job_of, polygonize_words, rasterize_words, sieve_words, unless}
 use Rattle.tool_words.specs.declared.fault.WordFault.{WordFault}
 use Rattle.tool_words.specs.declared.job.Job.{Job}
-use Rattle.tool_words.specs.declared.job.Job.TheVariants.{Sieve, Polygonize, Rasterize, Contour}
+use Rattle.tool_words.specs.declared.job.Job.TheVariants.{Contour}
 use Rattle.tool_run.specs.Inner.Ranges.{HasInterval}
 
 abbrev IsPositive : Option ℤ → Type 0

@@ -1,9 +1,9 @@
 -- The range of a grid's values, cell by cell.
-use Rattle.std.proofs.Common.{◌≡◌, ◌≢◌, ◌∙◌, ◌<◌, ◌+◌, ◌⊎◌, ◌≤ℤ◌, inl, inr, ℕ, ℤ, Bool, true, false, if◌then◌else◌, Option, Some, None, refl, sym, ap, subst, arith}
+use Rattle.std.proofs.Common.{◌≡◌, ◌≢◌, ◌∙◌, ◌+◌, ◌⊎◌, ◌≤ℤ◌, inl, inr, ℕ, ℤ, Bool, true, false, if◌then◌else◌, Option, Some, None, refl, sym, ap, subst, arith}
 use Rattle.std.specs.Prelude.{int_le}
 use Rattle.std.proofs.lemmas.Int.{ints}
-use Rattle.std.proofs.lemmas.Bool.{cases_eq, cases_lt}
-use Rattle.std.proofs.lemmas.Option.{none-some, same_Some}
+use Rattle.std.proofs.lemmas.Bool.{cases_lt}
+use Rattle.std.proofs.lemmas.Option.{same_Some}
 use Rattle.cell_base.specs.Order.{IsBefore}
 use Rattle.cell_base.specs.Raster.{IsRaster, Place, Raster, value_at}
 use Rattle.cell_base.proofs.PlaceLemmas.{inside_from_value}

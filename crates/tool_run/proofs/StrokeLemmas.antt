@@ -13,7 +13,7 @@ use Rattle.geo_transform.specs.Frame.{IsFrame}
 use Rattle.geo_transform.specs.declared.frame.Frame.{Frame}
 use Rattle.ogr_csv.specs.declared.feature.Feature.{Feature}
 use Rattle.wkt_text.specs.declared.geometry.Geometry.{Geometry}
-use Rattle.burn_scanline.specs.Burned.{BurnedFeature, Burns, Cover, HoldsInside, HoldsValues, burned, inside_value, outside_value}
+use Rattle.burn_scanline.specs.Burned.{BurnedFeature, Burns, Cover, HoldsInside, HoldsValues, inside_value, outside_value}
 use Rattle.burn_scanline.specs.Runs.{Run, is_in_runs}
 use Rattle.burn_scanline.specs.declared.burning.How.{How}
 use Rattle.burn_scanline.specs.declared.burning.How.TheVariants.{Set}

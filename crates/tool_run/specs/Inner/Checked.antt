@@ -7,7 +7,6 @@ use Rattle.tool_outcome.specs.Source.{text_of}
 use Rattle.tool_outcome.specs.declared.fault.Fault.{Fault}
 use Rattle.tool_outcome.specs.declared.fault.Fault.TheVariants.{ReadFault, WriteFault, NoMemory}
 use Rattle.tool_outcome.specs.declared.fault.Role.TheVariants.{Source}
-use Rattle.round_trip.specs.Check.{burn_job}
 use Rattle.tool_run.specs.Check.{IsLayerOf, with_back, with_layer}
 
 -- something that holds where the folder tells that the grid's file has the grid's text

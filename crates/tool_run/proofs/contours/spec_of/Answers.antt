@@ -1,4 +1,4 @@
-use Rattle.std.proofs.Common.{◌≡◌, ◌∙◌, ◌++◌, ap, arith, sym, take}
+use Rattle.std.proofs.Common.{◌∙◌, ◌++◌, ap, arith, sym, take}
 use Rattle.std.specs.Prelude.{slice_get}
 use Rattle.std.specs.Option.{option_to_list}
 use Rattle.tool_run.proofs.LayerLemmas.{some_at, take_more}
