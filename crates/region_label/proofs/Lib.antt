@@ -1,5 +1,6 @@
 pub mod ListLemmas
 pub mod RowsLemmas
+pub mod NoteLemmas
 pub mod SearchLemmas
 pub mod ListsLemmas
 pub mod ContactLemmas

@@ -76,7 +76,7 @@ impl RunLists {
         ensures joins { Joins (contacts EIGHT rows.now) at number self.old self.new last result }
         ensures joined { contacts EIGHT rows.now at run → IsNumbered self.new.components.items run }
     {
-        if rows.units[run] != rows.units[at as usize] {
+        if rows.notes[run].units != rows.notes[at as usize].units {
             return last;
         }
         if self.components[run].is_some() {
@@ -138,7 +138,7 @@ impl RunLists {
         if row == 0 {
             return last;
         }
-        let guess = rows.beside.above(at);
+        let guess = rows.notes[at as usize].above;
         self.join_row::<EIGHT>(rows, at, row - 1, guess, last, number)
     }
 
@@ -161,7 +161,7 @@ impl RunLists {
         if row == rows.nrows {
             return last;
         }
-        let guess = rows.beside.below(at);
+        let guess = rows.notes[at as usize].below;
         self.join_row::<EIGHT>(rows, at, row, guess, last, number)
     }
 

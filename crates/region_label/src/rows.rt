@@ -1,53 +1,29 @@
 // Finds the runs of a grid, row by row.
 ghost use Rattle.std.specs.Prelude.{◌≡◌, ◌<◌, ◌≤◌, ◌+◌, IfOk, OnOk, length, slice_index};
-ghost use Rattle.region_label.specs.Inner.Rows.{AreFound, AreStarts, EndsAt, IsFirstPast, IsNonePast, IsValidAt};
-ghost use Rattle.region_label.specs.Inner.Table.{AreInOrder, AreRowsOf, HasSize};
+ghost use Rattle.region_label.specs.Inner.Rows.{AreFound, AreStarts, EndsAt, IsFirstPast, IsNonePast, IsValidAt, noted_units};
+ghost use Rattle.region_label.specs.Inner.Table.{AreInOrder, AreRowsOf, HasSize, KeepsRows};
 
 use cell_base::{Cell, Grid, Mask, Run};
 use std::alloc::{AllocError, Global};
 
-// The runs by row and column, the units of the cells of each, and where each row's runs begin; the last start is
-// the end.
+// The runs by row and column, a note on each, and where each row's runs begin; the last start is the end.
 #[derive(Drop)]
 pub(crate) struct RowRuns {
     pub(crate) ncols: u32,
     pub(crate) nrows: u32,
     pub(crate) runs: Vec<Run>,
-    pub(crate) units: Vec<i64>,
+    pub(crate) notes: Vec<RunNote>,
     pub(crate) starts: Vec<u32>,
-    pub(crate) beside: Beside,
 }
 
-// For each run where the runs beside it may begin in the row above, and in the row below: guesses, from which a search
-// goes on, so that they are a matter of time alone.
-#[derive(Drop)]
-pub(crate) struct Beside {
-    above: Vec<u32>,
-    below: Vec<u32>,
-}
-
-fn guess(guesses: &[u32], run: u32) -> u32 {
-    match guesses.get(run as usize) {
-        Some(at) => *at,
-        None => 0,
-    }
-}
-
-impl Beside {
-    fn none(alloc: Global) -> Beside {
-        Beside {
-            above: Vec::new(alloc),
-            below: Vec::new(alloc),
-        }
-    }
-
-    pub(crate) fn above(&self, run: u32) -> u32 {
-        guess(&self.above, run)
-    }
-
-    pub(crate) fn below(&self, run: u32) -> u32 {
-        guess(&self.below, run)
-    }
+// What a fill reads of a run beside its place: the units of its cells, and where the runs beside it may begin in the row
+// above, and in the row below. These are guesses, from which a search goes on, so that they are a matter of time alone.
+// They stand together, so that a fill that goes down a column finds them in one place.
+#[derive(Clone, Copy)]
+pub(crate) struct RunNote {
+    pub(crate) units: i64,
+    pub(crate) above: u32,
+    pub(crate) below: u32,
 }
 
 // Where the run that begins at a cell ends.
@@ -76,11 +52,11 @@ impl RowRuns {
     ) -> Result<u32, AllocError>
         requires row { row < cells.now.nrows }
         requires col { col < cells.now.ncols }
-        requires found { AreFound T.units_of cells.now valid.now self.old.runs.items self.old.units.items (row, col) }
+        requires found { AreFound T.units_of cells.now valid.now self.old.runs.items (noted_units self.old.notes.items) (row, col) }
         requires starts { AreStarts self.old.runs.items self.old.starts.items (row + 1) }
         ensures further { IfOk result (λ next. (col < next) × (next ≤ cells.now.ncols)) }
         ensures found { IfOk result (λ next.
-            AreFound T.units_of cells.now valid.now self.new.runs.items self.new.units.items (row, next)) }
+            AreFound T.units_of cells.now valid.now self.new.runs.items (noted_units self.new.notes.items) (row, next)) }
         ensures starts { OnOk result (AreStarts self.new.runs.items self.new.starts.items (row + 1)) }
         ensures size { HasSize self.old self.new }
     {
@@ -91,7 +67,11 @@ impl RowRuns {
         }
         let to = run_end(values, marks, col as usize) as u32;
         self.runs.push(Run { row, from: col, to })?;
-        self.units.push(values[col as usize].units())?;
+        self.notes.push(RunNote {
+            units: values[col as usize].units(),
+            above: 0,
+            below: 0,
+        })?;
         Ok(to)
     }
 
@@ -103,10 +83,10 @@ impl RowRuns {
         row: u32,
     ) -> Result<(), AllocError>
         requires row { row < cells.now.nrows }
-        requires found { AreFound T.units_of cells.now valid.now self.old.runs.items self.old.units.items (row, 0) }
+        requires found { AreFound T.units_of cells.now valid.now self.old.runs.items (noted_units self.old.notes.items) (row, 0) }
         requires starts { AreStarts self.old.runs.items self.old.starts.items (row + 1) }
         ensures found { OnOk result
-            (AreFound T.units_of cells.now valid.now self.new.runs.items self.new.units.items (row + 1, 0)) }
+            (AreFound T.units_of cells.now valid.now self.new.runs.items (noted_units self.new.notes.items) (row + 1, 0)) }
         ensures starts { OnOk result (AreStarts self.new.runs.items self.new.starts.items (row + 1)) }
         ensures size { HasSize self.old self.new }
     {
@@ -131,16 +111,15 @@ impl RowRuns {
             ncols: valid.ncols(),
             nrows: cells.nrows(),
             runs: Vec::new(alloc),
-            units: Vec::new(alloc),
+            notes: Vec::new(alloc),
             starts: Vec::new(alloc),
-            beside: Beside::none(alloc),
         };
         for row in 0..cells.nrows() {
             rows.starts.push(rows.runs.len() as u32)?;
             rows.push_row(cells, valid, row)?;
         }
         rows.starts.push(rows.runs.len() as u32)?;
-        rows.beside = rows.find_beside(alloc)?;
+        rows.find_beside();
         Ok(rows)
     }
 
@@ -157,32 +136,46 @@ impl RowRuns {
         at
     }
 
-    // Adds, for each run of a row, where in another row the first run lies that ends past its start.
-    fn push_beside(&self, guesses: &mut Vec<u32>, row: u32, other: u32) -> Result<(), AllocError>
-        requires ordered { AreInOrder self.now }
-        requires row { row < self.now.nrows }
-        requires other { other < self.now.nrows }
+    // Writes the guesses of a run.
+    fn guess(&mut self, run: usize, above: u32, below: u32)
+        requires { run < length self.old.notes.items }
+        ensures { KeepsRows self.old self.new }
     {
-        let end = self.starts[other as usize + 1] as usize;
-        let mut at = self.starts[other as usize] as usize;
-        'runs: for run in self.starts[row as usize]..self.starts[row as usize + 1] {
-            at = self.ends_past(self.runs[run as usize].from, at, end);
-            guesses.push(at as u32)?;
-        }
-        Ok(())
+        let mut note = self.notes[run];
+        note.above = above;
+        note.below = below;
+        self.notes[run] = note;
     }
 
-    // Walks each two neighbouring rows side by side; beyond the first and the last row there is nothing to find.
-    fn find_beside(&self, alloc: Global) -> Result<Beside, AllocError>
-        requires ordered { AreInOrder self.now }
+    // Guesses, for each run of a row, where in the rows beside it the first run lies that ends past its start. Beyond
+    // the first and the last row there is nothing to find.
+    fn guess_row(&mut self, row: u32)
+        requires ordered { AreInOrder self.old }
+        requires row { row < self.old.nrows }
+        ensures { KeepsRows self.old self.new }
     {
-        let mut above = Vec::with_capacity(alloc, self.runs.len())?;
-        let mut below = Vec::with_capacity(alloc, self.runs.len())?;
-        for row in 0..self.nrows {
-            self.push_beside(&mut above, row, row.saturating_sub(1))?;
-            self.push_beside(&mut below, row, (row + 1).min(self.nrows - 1))?;
+        let row_above = row.saturating_sub(1) as usize;
+        let row_below = (row + 1).min(self.nrows - 1) as usize;
+        let mut above = self.starts[row_above] as usize;
+        let above_end = self.starts[row_above + 1] as usize;
+        let mut below = self.starts[row_below] as usize;
+        let below_end = self.starts[row_below + 1] as usize;
+        'runs: for run in self.starts[row as usize]..self.starts[row as usize + 1] {
+            let col = self.runs[run as usize].from;
+            above = self.ends_past(col, above, above_end);
+            below = self.ends_past(col, below, below_end);
+            self.guess(run as usize, above as u32, below as u32);
         }
-        Ok(Beside { above, below })
+    }
+
+    // Walks each row side by side with the rows beside it.
+    fn find_beside(&mut self)
+        requires ordered { AreInOrder self.old }
+        ensures { KeepsRows self.old self.new }
+    {
+        for row in 0..self.nrows {
+            self.guess_row(row);
+        }
     }
 
     // The first run of a row that ends past a column, or else the end of the row's runs.

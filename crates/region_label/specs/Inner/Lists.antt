@@ -3,6 +3,7 @@ use Rattle.std.specs.Prelude.{◌≡◌, ◌≢◌, ℕ, ◌+◌, ◌<◌, ◌�
 use Rattle.cell_base.specs.Steps.{AreNext}
 use Rattle.cell_base.specs.Walk.{IsWalk}
 use Rattle.region_label.specs.Run.{Run}
+use Rattle.region_label.specs.Inner.Rows.{noted_units}
 use Rattle.region_label.specs.declared.rows.RowRuns.{RowRuns}
 use Rattle.region_label.specs.declared.lists.RunLists.{RunLists}
 
@@ -76,7 +77,7 @@ pub record Joins (touch : ℕ → ℕ → Type 0) (at number : ℕ) (old new : R
 
 -- the contacts of the runs
 abbrev pub contacts : Bool → RowRuns → ℕ → ℕ → Type 0
-contacts connectivity rows = IsContact connectivity rows.runs.items rows.units.items
+contacts connectivity rows = IsContact connectivity rows.runs.items (noted_units rows.notes.items)
 
 -- the run at one index touches that at the other
 abbrev pub TouchAt : Bool → RowRuns → ℕ → ℕ → Type 0

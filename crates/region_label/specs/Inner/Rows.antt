@@ -1,9 +1,14 @@
 -- The runs of a grid by rows, and how far they have been found.
-use Rattle.std.specs.Prelude.{◌≡◌, ◌≢◌, ℕ, ◌+◌, ◌*◌, ◌<◌, ◌≤◌, ◌⊎◌, ◌↔◌, ℤ, Bool, true, List, Some, length, slice_get, slice_index}
+use Rattle.std.specs.Prelude.{◌≡◌, ◌≢◌, ℕ, ◌+◌, ◌*◌, ◌<◌, ◌≤◌, ◌⊎◌, ◌↔◌, ℤ, Bool, true, List, Some, length, map, slice_get, slice_index}
 use Rattle.cell_base.specs.Raster.{Place, Raster, AreAligned, most_cells}
 use Rattle.cell_base.specs.Order.{IsBefore}
 use Rattle.region_label.specs.Component.{HasValue}
 use Rattle.region_label.specs.Run.{Run, IsCellOf, IsRunBefore, IsRunIn}
+use Rattle.region_label.specs.declared.rows.RunNote.{RunNote}
+
+-- the units of the runs with these notes
+abbrev pub noted_units : List RunNote → List ℤ
+noted_units notes = map (λ note. note.units) notes
 
 -- the runs lie inside, in order, and the starts tell where each row's runs begin and end
 pub record AreInRows (ncols nrows : ℕ) (runs : List Run) (units : List ℤ) (starts : List ℕ) : Type 0 where

@@ -1,7 +1,7 @@
 -- What a table of runs keeps.
 use Rattle.std.specs.Prelude.{◌≡◌, ℕ, ◌<◌, ◌≤◌, zero, suc, ℤ, ◌==◌, Bool, List, [], ◌∷◌, Option, Some, None, Contains, map, length, slice_get, slice_index, take, unwrap_or, if◌then◌else◌}
 use Rattle.cell_base.specs.Raster.{IsRaster, Raster}
-use Rattle.region_label.specs.Inner.Rows.{AreFound, AreInRows}
+use Rattle.region_label.specs.Inner.Rows.{AreFound, AreInRows, noted_units}
 use Rattle.region_label.specs.Inner.Lists.{AreSized, IsLinked}
 use Rattle.region_label.specs.Run.{Run}
 use Rattle.region_label.specs.RunTable.{IsTableOfRegions, TableOfRuns, regions_of}
@@ -10,19 +10,27 @@ use Rattle.region_label.specs.declared.lists.RunLists.{RunLists}
 
 -- the runs lie in their rows
 abbrev pub AreInOrder : RowRuns → Type 0
-AreInOrder rows = AreInRows rows.ncols rows.nrows rows.runs.items rows.units.items rows.starts.items
+AreInOrder rows = AreInRows rows.ncols rows.nrows rows.runs.items (noted_units rows.notes.items) rows.starts.items
 
 -- the size stays
 pub record HasSize (old new : RowRuns) : Type 0 where
   pub ncols : new.ncols ≡ old.ncols
   pub nrows : new.nrows ≡ old.nrows
 
+-- all but the guesses stays
+pub record KeepsRows (old new : RowRuns) : Type 0 where
+  pub ncols : new.ncols ≡ old.ncols
+  pub nrows : new.nrows ≡ old.nrows
+  pub runs : new.runs ≡ old.runs
+  pub units : noted_units new.notes.items ≡ noted_units old.notes.items
+  pub starts : new.starts ≡ old.starts
+
 -- the runs of these cells
 pub record AreRowsOf {T : Type 0} (units_of : T → ℤ) (cells : Raster T) (valid : Raster Bool) (rows : RowRuns) : Type 0 where
   pub ncols : rows.ncols ≡ cells.ncols
   pub nrows : rows.nrows ≡ cells.nrows
   pub in_order : AreInOrder rows
-  pub found : AreFound units_of cells valid rows.runs.items rows.units.items (cells.nrows, 0)
+  pub found : AreFound units_of cells valid rows.runs.items (noted_units rows.notes.items) (cells.nrows, 0)
 
 -- at most so many members of a linked list, from one on to the one that is linked to itself
 abbrev pub linked_from : List ℕ → ℕ → ℕ → List ℕ
@@ -42,7 +50,7 @@ table_of rows lists = record {
   ncols = rows.ncols;
   nrows = rows.nrows;
   runs = rows.runs.items;
-  units = rows.units.items;
+  units = noted_units rows.notes.items;
   components = lists.components.items;
   lists = lists_of lists;
 }

@@ -1,6 +1,7 @@
 use Rattle.std.proofs.Common.{◌≡◌, ℕ, Option, Some, refl, ap, sym, ◌∙◌, arith}
 use Rattle.std.specs.Prelude.{slice_get}
 use Rattle.std.proofs.lemmas.Option.{slice_get-get_or}
+use Rattle.region_label.specs.Inner.Rows.{noted_units}
 use Rattle.region_label.proofs.ContactLemmas.{contact_back, free_read, numbered_read}
 use Rattle.region_label.proofs.FilledLemmas.{filled_more, filled_skip}
 use Rattle.region_label.proofs.lists.RunLists.fill_run.Goals as goal
@@ -18,4 +19,4 @@ fill_from-requires-clause-free g c =
     free_read components c.args.run c.index.result.now read (sym c.is_some.ensures ∙ c.if-is_some.false)
 
 pub returns : goal.returns
-returns g c = filled_more _ _ c.args.self.now _ c.fill_from.new.self _ c.args.run (contact_back _ c.args.rows.now.runs.items c.args.rows.now.units.items) c.requires.filled c.requires.run refl refl refl c.fill_from.ensures refl refl refl refl
+returns g c = filled_more _ _ c.args.self.now _ c.fill_from.new.self _ c.args.run (contact_back _ c.args.rows.now.runs.items (noted_units c.args.rows.now.notes.items)) c.requires.filled c.requires.run refl refl refl c.fill_from.ensures refl refl refl refl

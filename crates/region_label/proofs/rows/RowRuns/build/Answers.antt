@@ -1,4 +1,6 @@
 use Rattle.std.proofs.Common.{◌≡◌, length, arith}
+use Rattle.region_label.specs.Inner.Rows.{noted_units}
+use Rattle.region_label.proofs.NoteLemmas.{kept_rows}
 use Rattle.region_label.proofs.RowsLemmas.{rows_built, starts_found}
 use Rattle.region_label.proofs.rows.RowRuns.build.Goals as goal
 
@@ -6,25 +8,27 @@ pub push_row-requires-clause-starts : goal.push_row-requires-clause-starts
 push_row-requires-clause-starts g c =
     let rows = c.loop-row.rows in
     let count : c.len.result ≡ length rows.runs.items = cc (rows.runs.ok.0, c.len.ensures) in
-    rw (c.in_ok-push.ensures.items, count) (starts_found g.T.Cell.units_of c.args.cells.now c.args.valid.now rows.runs.items rows.units.items rows.starts.items c.loop-row.row c.loop-row.invariant.found c.loop-row.invariant.starts)
+    rw (c.in_ok-push.ensures.items, count) (starts_found g.T.Cell.units_of c.args.cells.now c.args.valid.now rows.runs.items (noted_units rows.notes.items) rows.starts.items c.loop-row.row c.loop-row.invariant.found c.loop-row.invariant.starts)
 
 pub find_beside-requires : goal.find_beside-requires
 find_beside-requires g c =
+    let rows = c.loop-row.rows in
     let end : c.loop-row.row ≡ c.args.cells.now.nrows = omega arith in
     let found = rw end at c.loop-row.invariant.found in
     let starts = rw end at c.loop-row.invariant.starts in
-    let count : c.len-2.result ≡ length c.loop-row.rows.runs.items = cc (c.loop-row.rows.runs.ok.0, c.len-2.ensures) in
-    record { ordered = rw (c.in_ok-push-2.ensures.items, count) (rows_built g.T.Cell.units_of c.args.cells.now c.args.valid.now c.loop-row.rows.ncols c.loop-row.rows.nrows c.loop-row.rows.runs.items c.loop-row.rows.units.items c.loop-row.rows.starts.items c.loop-row.invariant.ncols c.loop-row.invariant.nrows found starts) }
+    let count : c.len-2.result ≡ length rows.runs.items = cc (rows.runs.ok.0, c.len-2.ensures) in
+    record { ordered = rw (c.in_ok-push-2.ensures.items, count) (rows_built g.T.Cell.units_of c.args.cells.now c.args.valid.now rows.ncols rows.nrows rows.runs.items (noted_units rows.notes.items) rows.starts.items c.loop-row.invariant.ncols c.loop-row.invariant.nrows found starts) }
 
 pub returns : goal.returns
 returns g c =
+    let rows = c.loop-row.rows in
     let end : c.loop-row.row ≡ c.args.cells.now.nrows = omega arith in
     let found = rw end at c.loop-row.invariant.found in
     let starts = rw end at c.loop-row.invariant.starts in
-    let count : c.len-2.result ≡ length c.loop-row.rows.runs.items = cc (c.loop-row.rows.runs.ok.0, c.len-2.ensures) in
-    record {
+    let count : c.len-2.result ≡ length rows.runs.items = cc (rows.runs.ok.0, c.len-2.ensures) in
+    kept_rows g.T.Cell.units_of c.args.cells.now c.args.valid.now _ c.find_beside.new.self c.find_beside.ensures (record {
       ncols = c.loop-row.invariant.ncols;
       nrows = c.loop-row.invariant.nrows;
-      in_order = rw (c.in_ok-push-2.ensures.items, count) (rows_built g.T.Cell.units_of c.args.cells.now c.args.valid.now c.loop-row.rows.ncols c.loop-row.rows.nrows c.loop-row.rows.runs.items c.loop-row.rows.units.items c.loop-row.rows.starts.items c.loop-row.invariant.ncols c.loop-row.invariant.nrows found starts);
+      in_order = rw (c.in_ok-push-2.ensures.items, count) (rows_built g.T.Cell.units_of c.args.cells.now c.args.valid.now rows.ncols rows.nrows rows.runs.items (noted_units rows.notes.items) rows.starts.items c.loop-row.invariant.ncols c.loop-row.invariant.nrows found starts);
       found = found;
-    }
+    })

@@ -1,4 +1,4 @@
-use Rattle.std.proofs.Common.{◌≤◌, ◌-◌, ◌+◌}
+use Rattle.std.proofs.Common.{◌-◌, ◌+◌}
 use Rattle.std.specs.Prelude.{slice_index}
 use Rattle.region_label.specs.Inner.Rows.{IsNonePast}
 use Rattle.region_label.proofs.rows.RowRuns.first_past_from.Given as goal

@@ -1,0 +1,32 @@
+-- The notes on runs: their units stay while guesses are written.
+use Rattle.std.proofs.Common.{◌≡◌, ℕ, ℤ, List, [], ◌∷◌, ◌++◌, Some, length, ap, ◌∙◌, Bool}
+use Rattle.std.specs.Prelude.{option_map, slice_get}
+use Rattle.std.proofs.lemmas.List.{length-map, map-append}
+use Rattle.std.proofs.lemmas.Option.{slice_get-map}
+use Rattle.cell_base.specs.Raster.{Raster}
+use Rattle.region_label.specs.declared.rows.RowRuns.{RowRuns}
+use Rattle.region_label.specs.declared.rows.RunNote.{RunNote}
+use Rattle.region_label.specs.Inner.Rows.{noted_units}
+use Rattle.region_label.specs.Inner.Table.{AreInOrder, AreRowsOf, KeepsRows}
+
+pub length-noted : (notes : List RunNote) → length (noted_units notes) ≡ length notes
+length-noted notes = length-map notes (λ (note : RunNote). note.units)
+
+pub noted_at : (notes : List RunNote) (i : ℕ) (note : RunNote) → slice_get notes i ≡ Some note → slice_get (noted_units notes) i ≡ Some note.units
+noted_at notes i note at = slice_get-map (λ (note : RunNote). note.units) notes i ∙ ap (option_map (λ (note : RunNote). note.units)) at
+
+pub noted_push : (notes : List RunNote) (note : RunNote) → noted_units (notes ++ note ∷ []) ≡ noted_units notes ++ note.units ∷ []
+noted_push notes note = map-append (λ (note : RunNote). note.units) notes (note ∷ [])
+
+-- runs in order stay so
+pub kept_order : (old new : RowRuns) → KeepsRows old new → AreInOrder old → AreInOrder new
+kept_order old new keeps order = rw (keeps.ncols, keeps.nrows, keeps.runs, keeps.units, keeps.starts) order
+
+-- the runs of these cells stay so
+pub kept_rows : {T : Type 0} (units_of : T → ℤ) (cells : Raster T) (valid : Raster Bool) (old new : RowRuns) → KeepsRows old new → AreRowsOf units_of cells valid old → AreRowsOf units_of cells valid new
+kept_rows units_of cells valid old new keeps rows = record {
+  ncols = keeps.ncols ∙ rows.ncols;
+  nrows = keeps.nrows ∙ rows.nrows;
+  in_order = kept_order old new keeps rows.in_order;
+  found = rw (keeps.runs, keeps.units) rows.found;
+}
