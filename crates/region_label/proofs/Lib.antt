@@ -22,4 +22,5 @@ pub mod ComponentExamples
 pub mod LabellingLemmas
 pub mod CountLaws
 pub mod CountLemmas
+pub mod CountedLemmas
 pub mod RegionDeciders

@@ -1,7 +1,8 @@
-ghost use Rattle.std.specs.Prelude.{◌≡◌, ◌+◌, ◌<◌, IfOk, Some, length, slice_get};
+ghost use Rattle.std.specs.Prelude.{◌≡◌, ◌+◌, ◌<◌, IfOk, length};
 ghost use Rattle.cell_base.specs.Raster.{most_cells};
 ghost use Rattle.region_label.specs.Labelling.{IsLabelling};
 ghost use Rattle.region_label.specs.RunTable.{IsFilled, IsTableOfRegions, TableOfRuns, regions_of};
+ghost use Rattle.region_label.specs.Inner.Sizes.{AreCounted};
 ghost use Rattle.region_label.specs.Inner.Table.{AreSizesBelow};
 
 use crate::regions::Regions;
@@ -9,29 +10,30 @@ use crate::table::RunTable;
 use cell_base::{Cell, Grid, Mask};
 use std::alloc::{AllocError, Global};
 
-// The number of cells of a component.
-fn size_of(table: &RunTable, k: u32) -> u32
-    requires known { k < length table.now.lists }
+// Adds the cells of a run to those of its component.
+fn count_run(sizes: &mut [u32], table: &RunTable, i: usize)
     requires filled { IsTableOfRegions (regions_of table.now) table.now }
     requires small { AreSizesBelow (most_cells + 1) table.now }
-    ensures { slice_get (regions_of table.now).sizes k ≡ Some result }
+    requires run { i < length table.now.runs }
+    requires counted { AreCounted table.now i sizes.old }
+    ensures { AreCounted table.now (i + 1) sizes.new }
 {
-    let mut size = 0;
-    for run in table.runs_of(k) {
-        size += run.to - run.from;
-    }
-    size
+    let Some(k) = table.components()[i] else {
+        return;
+    };
+    let run = table.runs()[i];
+    sizes[k as usize] += run.to - run.from;
 }
 
-// The number of cells of each component. The only error is want of memory.
+// The number of cells of each component, over the runs as they lie. The only error is want of memory.
 fn sizes_of(alloc: Global, table: &RunTable) -> Result<Vec<u32>, AllocError>
     requires filled { IsTableOfRegions (regions_of table.now) table.now }
     requires small { AreSizesBelow (most_cells + 1) table.now }
     ensures { IfOk result (λ sizes. sizes.items ≡ (regions_of table.now).sizes) }
 {
-    let mut sizes = Vec::with_capacity(alloc, table.count() as usize)?;
-    for k in 0..table.count() {
-        sizes.push(size_of(table, k))?;
+    let mut sizes = vec![in alloc; 0u32; table.count() as usize]?;
+    for i in 0..table.runs().len() {
+        count_run(&mut sizes, table, i);
     }
     Ok(sizes)
 }

@@ -1,10 +1,17 @@
-use Rattle.std.proofs.Common.{sym, ◌∙◌, ap, ◌∷◌, [], ◌++◌, arith}
-use Rattle.region_label.specs.RunTable.{regions_of}
-use Rattle.region_label.proofs.ListLemmas.{take_push}
+use Rattle.std.proofs.Common.{◌≡◌, length, replicate, ap, ◌∙◌, subst, ℕ, rules, arith}
+use Rattle.region_label.specs.Inner.Sizes.{AreCounted}
+use Rattle.region_label.proofs.CountedLemmas.{counted_all, counted_none}
 use Rattle.region_label.proofs.labelling.sizes_of.Goals as goal
 
-pub loop-k-preserved : goal.loop-k-preserved
-loop-k-preserved c = record {
-  sizes = c.in_ok-push.ensures.items ∙ ap (λ xs. xs ++ c.size_of.result ∷ []) c.loop-k.invariant.sizes ∙ sym (take_push (regions_of c.args.table.now).sizes c.loop-k.k c.size_of.result c.size_of.ensures);
-  within = omega (arith, c.count-k-end.ensures);
-}
+pub loop-i-init : goal.loop-i-init
+loop-i-init c =
+    let table = c.args.table.now in
+    let made : c.in_ok-sizes.sizes.items ≡ replicate c.count.result 0 = search rules in
+    let same : c.in_ok-sizes.sizes.items ≡ replicate (length table.lists) 0 = made ∙ ap (λ n. replicate n 0) c.count.ensures in
+    record { counted = rw same (counted_none table) }
+
+pub returns : goal.returns
+returns c =
+    let table = c.args.table.now in
+    let end : c.loop-i.i ≡ length table.runs = omega (arith, ap length c.runs-i-end.ensures.value) in
+    counted_all table c.loop-i.sizes.items c.requires.filled (subst (λ (i : ℕ). AreCounted table i c.loop-i.sizes.items) end c.loop-i.invariant.counted)
