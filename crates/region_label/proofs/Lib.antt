@@ -24,3 +24,7 @@ pub mod CountLaws
 pub mod CountLemmas
 pub mod CountedLemmas
 pub mod RegionDeciders
+pub mod ReachLemmas
+pub mod PlacesLemmas
+pub mod JoinedDeciders
+pub mod ExistsLemmas

@@ -8,7 +8,7 @@ use Rattle.std.proofs.lemmas.List.Sums.{position_or_len_is}
 use Rattle.std.proofs.lemmas.List.Quantifiers.{position-Some}
 use Rattle.std.proofs.lemmas.List.FromFn.{get_or-range_with_len, length-map-range_with_len, length-range_with_len}
 use Rattle.std.proofs.lemmas.Option.{get_or_from_slice_get, slice_get-get_or, slice_get-map, slice_get_within}
-use Rattle.cell_base.specs.Raster.{Place, IsRaster, most_cells, value_at}
+use Rattle.cell_base.specs.Raster.{Place, Raster, IsRaster, most_cells, value_at}
 use Rattle.region_label.specs.Run.{Run, IsCellOf, IsRunBefore}
 use Rattle.region_label.specs.RunTable.{TableOfRuns, number_at, regions_of}
 
@@ -86,24 +86,34 @@ range_at n i less =
 from_range : {X : Type 0} (f : ℕ → X) (n i : ℕ) → i < n → slice_get (map f (range_with_len 0 n)) i ≡ Some (f i)
 from_range f n i less = slice_get-map f (range_with_len 0 n) i ∙ ap (option_map f) (range_at n i less)
 
--- the painted number of a cell inside
-pub painted : (table : TableOfRuns) (p : Place) → p.0 < table.nrows → p.1 < table.ncols → value_at (regions_of table).numbers p ≡ Some (number_at table p)
-painted table p in_row in_col =
-    ap (λ (row : Option (List (Option ℕ))). slice_get (unwrap_or row []) p.1) (from_range (λ r. map (λ c. number_at table (r, c)) (range_with_len 0 table.ncols)) table.nrows p.0 in_row)
-    ∙ from_range (λ c. number_at table (p.0, c)) table.ncols p.1 in_col
+-- a grid of what a function gives at each place
+abbrev pub grid_by : {X : Type 0} → ℕ → ℕ → (Place → X) → Raster X
+grid_by nrows ncols f = record { ncols = ncols; nrows = nrows; rows = map (λ r. map (λ c. f (r, c)) (range_with_len 0 ncols)) (range_with_len 0 nrows) }
 
--- the painted numbers are a grid
-pub painted_shape : (table : TableOfRuns) → 0 < table.ncols → 0 < table.nrows → table.ncols * table.nrows ≤ most_cells → IsRaster (regions_of table).numbers
-painted_shape table some_cols some_rows small = record {
+pub grid_by_at : {X : Type 0} (nrows ncols : ℕ) (f : Place → X) (p : Place) → p.0 < nrows → p.1 < ncols → value_at (grid_by nrows ncols f) p ≡ Some (f p)
+grid_by_at {X} nrows ncols f p in_row in_col =
+    ap (λ (row : Option (List X)). slice_get (unwrap_or row []) p.1) (from_range (λ r. map (λ c. f (r, c)) (range_with_len 0 ncols)) nrows p.0 in_row)
+    ∙ from_range (λ c. f (p.0, c)) ncols p.1 in_col
+
+pub grid_by_shape : {X : Type 0} (nrows ncols : ℕ) (f : Place → X) → 0 < ncols → 0 < nrows → ncols * nrows ≤ most_cells → IsRaster (grid_by nrows ncols f)
+grid_by_shape nrows ncols f some_cols some_rows small = record {
   some_cols = some_cols;
   some_rows = some_rows;
   small = small;
-  height = length-map-range_with_len (λ r. map (λ c. number_at table (r, c)) (range_with_len 0 table.ncols)) 0 table.nrows;
+  height = length-map-range_with_len (λ r. map (λ c. f (r, c)) (range_with_len 0 ncols)) 0 nrows;
   width = λ k d within.
-      let in_rows : k < table.nrows = omega (arith, within, length-map-range_with_len (λ r. map (λ c. number_at table (r, c)) (range_with_len 0 table.ncols)) 0 table.nrows) in
-      let row = get_or_from_slice_get (map (λ r. map (λ c. number_at table (r, c)) (range_with_len 0 table.ncols)) (range_with_len 0 table.nrows)) k (map (λ c. number_at table (k, c)) (range_with_len 0 table.ncols)) d (from_range (λ r. map (λ c. number_at table (r, c)) (range_with_len 0 table.ncols)) table.nrows k in_rows) in
-      ap length row ∙ length-map-range_with_len (λ c. number_at table (k, c)) 0 table.ncols;
+      let in_rows : k < nrows = omega (arith, within, length-map-range_with_len (λ r. map (λ c. f (r, c)) (range_with_len 0 ncols)) 0 nrows) in
+      let row = get_or_from_slice_get (map (λ r. map (λ c. f (r, c)) (range_with_len 0 ncols)) (range_with_len 0 nrows)) k (map (λ c. f (k, c)) (range_with_len 0 ncols)) d (from_range (λ r. map (λ c. f (r, c)) (range_with_len 0 ncols)) nrows k in_rows) in
+      ap length row ∙ length-map-range_with_len (λ c. f (k, c)) 0 ncols;
 }
+
+-- the painted number of a cell inside
+pub painted : (table : TableOfRuns) (p : Place) → p.0 < table.nrows → p.1 < table.ncols → value_at (regions_of table).numbers p ≡ Some (number_at table p)
+painted table p in_row in_col = grid_by_at table.nrows table.ncols (number_at table) p in_row in_col
+
+-- the painted numbers are a grid
+pub painted_shape : (table : TableOfRuns) → 0 < table.ncols → 0 < table.nrows → table.ncols * table.nrows ≤ most_cells → IsRaster (regions_of table).numbers
+painted_shape table some_cols some_rows small = grid_by_shape table.nrows table.ncols (number_at table) some_cols some_rows small
 
 -- a cell in no run has no number
 pub number_out : (table : TableOfRuns) (p : Place) → ((i : ℕ) (run : Run) → slice_get table.runs i ≡ Some run → ¬ IsCellOf run p) → number_at table p ≡ None

@@ -1,5 +1,5 @@
 -- A filled table of runs is that of the components.
-use Rattle.std.proofs.Common.{◌≡◌, ℕ, ◌-◌, ◌<◌, ◌≤◌, inl, inr, ℤ, Bool, true, List, Some, length, take, get_or, length-take, refl, ap, sym, ◌∙◌, subst, arith}
+use Rattle.std.proofs.Common.{◌≡◌, ℕ, ◌-◌, ◌<◌, ◌≤◌, inl, inr, ℤ, Bool, true, List, Some, get_or, refl, ap, sym, ◌∙◌, subst, arith}
 use Rattle.std.specs.Prelude.{Contains, slice_get, slice_index, sum_by}
 use Rattle.std.proofs.lemmas.Bool.{cases_eq, cases_lt}
 use Rattle.std.proofs.lemmas.List.{length-map}
@@ -7,7 +7,6 @@ use Rattle.std.proofs.lemmas.Option.{same_Some, slice_get-get_or, slice_get-map,
 use Rattle.cell_base.specs.Raster.{Place, Raster, value_at}
 use Rattle.cell_base.specs.Valid.{IsMarked}
 use Rattle.cell_base.specs.Order.{IsBefore}
-use Rattle.cell_base.proofs.OrderLemmas.{before_not_itself, before_trans}
 use Rattle.cell_base.proofs.PlaceLemmas.{inside_from_value, value_inside}
 use Rattle.region_label.specs.Count.{HasCount}
 use Rattle.region_label.specs.Component.{HasNumber, HasSize, HasValue, InComponent, IsFirst}
@@ -20,7 +19,8 @@ use Rattle.region_label.specs.declared.rows.RowRuns.{RowRuns}
 use Rattle.region_label.specs.declared.lists.RunLists.{RunLists}
 use Rattle.region_label.proofs.CensusLemmas.{census}
 use Rattle.region_label.proofs.ComponentLemmas.{component_end, component_sym, component_trans}
-use Rattle.region_label.proofs.ListLemmas.{at_from_contains, contains_from_at, slice_get-take}
+use Rattle.region_label.proofs.CountLemmas.{count_before}
+use Rattle.region_label.proofs.ListLemmas.{at_from_contains, contains_from_at}
 use Rattle.region_label.proofs.NumberingLemmas.{Begins, HasRun, begins, first_at, has_joined, has_marked, has_region, joined_has, marked_has, read_run, region_has, shape, start_has}
 use Rattle.region_label.proofs.PaintLemmas.{same_run}
 use Rattle.region_label.proofs.WholeLemmas.{IsWhole, is_list_of, length_lists, list_of, mapped}
@@ -109,48 +109,20 @@ value_of_marked connectivity cells valid rows lists p whole marked =
     let value = value_inside cells p aligned.first (omega (arith, inside.0, aligned.nrows)) (omega (arith, inside.1, aligned.ncols)) in
     (value.0, (marked, value.1))
 
-same_at : {A : Type 0} (xs : List A) (i j : ℕ) (x y : A) → i ≡ j → slice_get xs i ≡ Some x → slice_get xs j ≡ Some y → x ≡ y
-same_at xs i j x y same at_x at_y =
-    same_Some x y (sym at_x ∙ ap (slice_get xs) same ∙ at_y)
-
--- in a list in order, those before the k-th stand in front of it
-index_before : (firsts : List Place) → ((i j : ℕ) (a b : Place) → i < j → slice_get firsts i ≡ Some a → slice_get firsts j ≡ Some b → IsBefore a b) → (i k : ℕ) (a b : Place) → slice_get firsts i ≡ Some a → slice_get firsts k ≡ Some b → IsBefore a b → i < k
-index_before firsts order i k a b at_a at_b before = elim (cases_lt i k) [
-  | inl less ↦ less
-  | inr past ↦ elim (cases_eq k i) [
-    | inl same ↦ absurd (before_not_itself a (subst (λ (p : Place). IsBefore a p) (same_at firsts k i b a same at_b at_a) before))
-    | inr other ↦ absurd (before_not_itself a (before_trans a b a before (order k i b a (omega arith) at_b at_a)))
-  ]
-]
-
 -- the number of a first cell is its index
 has_number : (connectivity : Bool) (cells : Raster ℤ) (valid : Raster Bool) (rows : RowRuns) (lists : RunLists) (k : ℕ) (a : Place) → IsWhole connectivity cells valid rows lists → slice_get (regions_of (table_of rows lists)).firsts k ≡ Some a → HasNumber connectivity cells valid a k
 has_number connectivity cells valid rows lists k a whole at =
     let firsts = (regions_of (table_of rows lists)).firsts in
-    let within = slice_get_within firsts k a at in
-    let long : length (take k firsts) ≡ k = omega (arith, length-take k firsts) in
     let begins_at : (i : ℕ) (x : Place) → slice_get firsts i ≡ Some x → Begins connectivity rows lists i x = λ i x at_x. begins connectivity cells valid rows lists i x whole at_x in
-    let order : (i j : ℕ) (x y : Place) → i < j → slice_get firsts i ≡ Some x → slice_get firsts j ≡ Some y → IsBefore x y = λ i j x y less at_x at_y. firsts_in_order connectivity cells valid rows lists i j x y whole less (begins_at i x at_x) (begins_at j y at_y) in
-    let old_at : (i : ℕ) (x : Place) → slice_get (take k firsts) i ≡ Some x → slice_get firsts i ≡ Some x = λ i x at_x. sym (slice_get-take k firsts i (omega (arith, long, slice_get_within (take k firsts) i x at_x))) ∙ at_x in (
-      take k firsts,
-      record {
-        all = λ x. (
-          λ member.
-              let at_x = at_from_contains (take k firsts) x member in
-              let there = old_at at_x.0 x at_x.1 in
-              (is_first connectivity cells valid rows lists at_x.0 x whole (begins_at at_x.0 x there), order at_x.0 k x a (omega (arith, long, slice_get_within (take k firsts) at_x.0 x at_x.1)) there at),
-          λ is.
-              let value = value_of_marked connectivity cells valid rows lists x whole is.0.marked in
-              let found = every_first connectivity cells valid rows lists x value.0 whole value.1 is.0 in
-              contains_from_at (take k firsts) found.0 x (slice_get-take k firsts found.0 (index_before firsts order found.0 k x a found.1 at is.1) ∙ found.1),
-        );
-        once = λ i j d less within_j same.
-            let at_i = old_at i _ (slice_get-get_or (take k firsts) i d (omega arith)) in
-            let at_j = old_at j _ (slice_get-get_or (take k firsts) j d within_j) in
-            before_not_itself _ (subst (λ (p : Place). IsBefore p (get_or (take k firsts) j d)) same (order i j _ _ less at_i at_j));
-      },
-      long,
-    )
+    count_before (IsFirst connectivity cells valid) firsts (λ i j x y less at_x at_y. firsts_in_order connectivity cells valid rows lists i j x y whole less (begins_at i x at_x) (begins_at j y at_y)) (λ x. (
+      λ member.
+          let at_x = at_from_contains firsts x member in
+          is_first connectivity cells valid rows lists at_x.0 x whole (begins_at at_x.0 x at_x.1),
+      λ first.
+          let value = value_of_marked connectivity cells valid rows lists x whole first.marked in
+          let found = every_first connectivity cells valid rows lists x value.0 whole value.1 first in
+          contains_from_at firsts found.0 x found.1,
+    )) k a at
 
 -- the size is the number of cells of the runs
 has_size : (connectivity : Bool) (cells : Raster ℤ) (valid : Raster Bool) (rows : RowRuns) (lists : RunLists) (k : ℕ) (a : Place) (n : ℕ) → IsWhole connectivity cells valid rows lists → Begins connectivity rows lists k a → slice_get (regions_of (table_of rows lists)).sizes k ≡ Some n → HasSize connectivity cells valid a n

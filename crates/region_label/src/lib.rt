@@ -11,7 +11,7 @@ mod walk;
 
 pub use cell_base::Run;
 pub use labelling::label;
-pub use laws::labelling_is_one;
+pub use laws::{each_grid_has_a_labelling, labelling_is_one};
 pub use regions::Regions;
 pub use table::RunTable;
 pub use walk::RunWalk;
