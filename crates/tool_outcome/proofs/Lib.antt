@@ -1,6 +1,7 @@
 pub mod MaskLemmas
 pub mod SieveLemmas
 pub mod PolygonizeLemmas
+pub mod LayerExistsLemmas
 pub mod ContourLemmas
 pub mod OneOutcomeLemmas
 pub mod WrittenLemmas

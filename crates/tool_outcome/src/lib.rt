@@ -9,6 +9,7 @@ mod status;
 
 pub use fault::{Fault, Role};
 pub use laws::{
-    contour_text_is_one, outcome_is_one, polygonize_text_is_one, writes_the_sieved_grid,
+    contour_text_is_one, each_grid_has_a_layer, outcome_is_one, polygonize_text_is_one,
+    writes_the_sieved_grid,
 };
 pub use status::Status;
