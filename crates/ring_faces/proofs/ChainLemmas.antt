@@ -20,6 +20,9 @@ use Rattle.ring_faces.proofs.MemberLemmas.{pairs_cons, pairs_weaker}
 pub below_test : (m n : ℕ) → m < n → nat_lt m n ≡ true
 below_test m n less = grind (arith, nat_tests)
 
+pub not_below : (m n : ℕ) → n ≤ m → nat_lt m n ≡ false
+not_below m n past = grind (arith, nat_tests)
+
 past_test : (m n : ℕ) → m ≡ n → nat_lt m n ≡ false
 past_test m n same = grind (arith, nat_tests)
 

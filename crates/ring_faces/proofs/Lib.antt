@@ -36,3 +36,4 @@ pub mod AssembleLemmas
 pub mod ChainLemmas
 pub mod ListedLemmas
 pub mod TracingLemmas
+pub mod CornerLemmas

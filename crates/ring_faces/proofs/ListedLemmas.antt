@@ -1,11 +1,12 @@
 -- The linked cycles of each component make its only canonical polygon.
-use Rattle.std.proofs.Common.{◌≡◌, ℕ, zero, suc, ◌<◌, ◌≤◌, List, [], ◌∷◌, length, Some, refl, sym, ap, ◌∙◌, subst, arith}
-use Rattle.std.specs.Prelude.{AllPairs, Contains, map, slice_get, slice_index, unwrap_or}
+use Rattle.std.proofs.Common.{◌≡◌, ℕ, zero, suc, ◌<◌, ◌≤◌, inl, inr, Bool, List, [], ◌∷◌, length, Some, refl, sym, ap, ◌∙◌, subst, arith}
+use Rattle.std.specs.Prelude.{AllPairs, Contains, map, slice_get, slice_index, unwrap_or, if◌then◌else◌}
+use Rattle.std.proofs.lemmas.Bool.{cases_lt}
 use Rattle.std.proofs.lemmas.List.{length-map}
 use Rattle.std.proofs.lemmas.Option.{get_or_from_slice_get, same_Some, slice_get_within}
 use Rattle.cell_base.specs.Raster.{Place}
 use Rattle.cell_base.proofs.PlaceLemmas.{element_at}
-use Rattle.cell_base.proofs.ListDeciders.{contains_there}
+use Rattle.cell_base.proofs.ListDeciders.{contains_cases, contains_here, contains_there}
 use Rattle.region_label.specs.Labelling.{RegionTable}
 use Rattle.region_label.proofs.ListLemmas.{at_from_contains, contains_from_at}
 use Rattle.edge_trace.specs.EdgeTable.{EdgeTable, IsEdgeOf, IsEdgeTable}
@@ -15,15 +16,16 @@ use Rattle.ring_faces.specs.Ring.{Ring}
 use Rattle.ring_faces.specs.CanonicalPolygon.{IsPolygonOf}
 use Rattle.ring_faces.specs.Faces.{AreJoinedBySides, ArePolygonsOf}
 use Rattle.ring_faces.specs.declared.cycles.Cycle.{Cycle}
+use Rattle.ring_faces.specs.declared.rings.RingCorners.{RingCorners}
 use Rattle.ring_faces.specs.declared.lists.CycleLists.{CycleLists}
 use Rattle.ring_faces.specs.Inner.Cycles.{AreAllCycles, AreCycles}
 use Rattle.ring_faces.specs.Inner.Tables.{IsLinkedTable}
-use Rattle.ring_faces.specs.Inner.Chains.{AreFaces, AreListed, CyclesBegin, IsChain, IsCycleIn, IsListFrom, chain_from, cycle_at, polygon_from, polygons_of, ring_along}
-use Rattle.ring_faces.proofs.MemberLemmas.{in_map, of_map, pairs_cons, pairs_head, pairs_nil, pairs_tail}
+use Rattle.ring_faces.specs.Inner.Chains.{AreFaces, AreListed, AreRings, CyclesBegin, IsChain, IsCycleIn, IsListFrom, chain_from, cycle_at, polygon_from, polygons_of, ring_along, ring_traced, rings_from}
+use Rattle.ring_faces.proofs.MemberLemmas.{in_map, none_in, of_map, pairs_cons, pairs_head, pairs_nil, pairs_tail}
 use Rattle.ring_faces.proofs.TableLemmas.{table_links}
 use Rattle.ring_faces.proofs.FirstEdgeLemmas.{IsCase, first_number}
 use Rattle.ring_faces.proofs.AssembleLemmas.{AreCyclesOf, assembled, none_missing}
-use Rattle.ring_faces.proofs.ChainLemmas.{chain_is, list_short}
+use Rattle.ring_faces.proofs.ChainLemmas.{below_test, chain_is, list_short, not_below}
 
 -- cycles by their indices
 
@@ -98,7 +100,7 @@ map_same f g (x ∷ xs) = ap (λ ys. f (g x) ∷ ys) (map_same f g xs)
 polygon_by_list : (regions : RegionTable) (table : EdgeTable) (cycles : List Cycle) (links : List ℕ) (start k : ℕ) (a : Place)
     → IsCase regions table k a → AreAllCycles table.next cycles → (list : List ℕ) → IsChain links start list → AllPairs (λ i j. i < j) list
     → ((i : ℕ) → Contains list i → i < length links) → AreCyclesOf regions table cycles k (map (cycle_at cycles) list)
-    → (start < length links) × IsPolygonOf regions k (polygon_from table cycles links start)
+    → (start < length links) × IsPolygonOf regions k (polygon_from (ring_traced table cycles) links start)
 polygon_by_list regions table cycles links start k a case are [] chain order within of = absurd
     (omega (arith, none_missing regions table cycles [] k a case are of))
 polygon_by_list regions table cycles links start k a case are (i ∷ is) chain order within of =
@@ -108,13 +110,13 @@ polygon_by_list regions table cycles links start k a case are (i ∷ is) chain o
     (chain_from links (length links) (slice_index links i)) = sym (map_same (ring_along table) (cycle_at cycles) is)
     ∙ ap (map (λ j. ring_along table (cycle_at cycles j))) (sym rest) in
     let polygon = assembled regions table cycles (cycle_at cycles i) (map (cycle_at cycles) is) k a case are of in
-    let from_i : IsPolygonOf regions k (polygon_from table cycles links i) = subst
+    let from_i : IsPolygonOf regions k (polygon_from (ring_traced table cycles) links i) = subst
     (λ (hs : List Ring). IsPolygonOf regions k (record { shell = ring_along table (cycle_at cycles i); holes = hs })) holes polygon in
-    (omega (arith, chain.0, chain.1), subst (λ (j : ℕ). IsPolygonOf regions k (polygon_from table cycles links j)) (sym chain.0) from_i)
+    (omega (arith, chain.0, chain.1), subst (λ (j : ℕ). IsPolygonOf regions k (polygon_from (ring_traced table cycles) links j)) (sym chain.0) from_i)
 
 polygon_at : (regions : RegionTable) (table : EdgeTable) (cycles : List Cycle) (lists : CycleLists) → IsAssembled regions table cycles lists
     → (k : ℕ) → k < length regions.firsts → (slice_index lists.firsts.items k < length lists.links.items) × IsPolygonOf regions k
-    (polygon_from table cycles lists.links.items (slice_index lists.firsts.items k))
+    (polygon_from (ring_traced table cycles) lists.links.items (slice_index lists.firsts.items k))
 polygon_at regions table cycles lists is k known =
     let first = element_at regions.firsts k known in
     let from = is.listed.each k known in
@@ -138,16 +140,48 @@ map_at f xs k y at =
 pub index_is : (xs : List ℕ) (k x : ℕ) → slice_get xs k ≡ Some x → slice_index xs k ≡ x
 index_is xs k x at = get_or_from_slice_get xs k x 0 at
 
--- the polygons of all components
-pub assembled_polygons : (regions : RegionTable) (table : EdgeTable) (cycles : List Cycle) (lists : CycleLists)
-    → IsAssembled regions table cycles lists → ArePolygonsOf regions (polygons_of table cycles lists)
-assembled_polygons regions table cycles lists is = record {
-  count = length-map lists.firsts.items (polygon_from table cycles lists.links.items) ∙ is.listed.count;
+-- rings that are the same up to the number of links make the same polygons
+
+chain_below : (links : List ℕ) (n at i : ℕ) → Contains (chain_from links n at) i → i < length links
+chain_below links zero at i member = absurd (none_in i member)
+chain_below links (suc n) at i member = elim (cases_lt at (length links)) [
+  | inl less ↦ elim (contains_cases at (chain_from links n (slice_index links at)) i
+      (subst (λ (b : Bool). Contains (if b then at ∷ chain_from links n (slice_index links at) else []) i) (below_test at (length links) less) member)) [
+        | inl here ↦ omega (arith, here, less)
+        | inr later ↦ chain_below links n (slice_index links at) i later
+      ]
+  | inr past ↦ absurd (none_in i
+      (subst (λ (b : Bool). Contains (if b then at ∷ chain_from links n (slice_index links at) else []) i) (not_below at (length links) past) member))
+]
+
+map_alike : {A B : Type 0} (f g : A → B) (xs : List A) → ((x : A) → Contains xs x → f x ≡ g x) → map f xs ≡ map g xs
+map_alike f g [] same = refl
+map_alike f g (x ∷ xs) same = ap (λ ys. f x ∷ ys) (map_alike f g xs (λ y member. same y (contains_there x xs y member)))
+    ∙ ap (λ y. y ∷ map g xs) (same x (contains_here x xs))
+
+polygon_same : (ring other : ℕ → Ring) (links : List ℕ) (first : ℕ) → ((i : ℕ) → i < length links → ring i ≡ other i) → first < length links
+    → polygon_from ring links first ≡ polygon_from other links first
+polygon_same ring other links first same within =
+    let next = slice_index links first in
+    let holes : rings_from ring links next ≡ rings_from other links next = map_alike ring other (chain_from links (length links) next)
+    (λ i member. same i (chain_below links (length links) next i member)) in
+    let make : Ring → List Ring → Polygon = λ s hs. record { shell = s; holes = hs } in
+    ap (λ (hs : List Ring). make (ring first) hs) holes ∙ ap (λ (s : Ring). make s (rings_from other links next)) (same first within)
+
+-- the polygons of all components, from rings that are those of the cycles
+pub assembled_polygons : (regions : RegionTable) (table : EdgeTable) (cycles : List Cycle) (lists : CycleLists) (ring : ℕ → Ring)
+    → IsAssembled regions table cycles lists → ((i : ℕ) → i < length cycles → ring i ≡ ring_traced table cycles i)
+    → ArePolygonsOf regions (polygons_of ring lists)
+assembled_polygons regions table cycles lists ring is same = record {
+  count = length-map lists.firsts.items (polygon_from ring lists.links.items) ∙ is.listed.count;
   each = λ k polygon at.
-      let found = map_at (polygon_from table cycles lists.links.items) lists.firsts.items k polygon at in
+      let found = map_at (polygon_from ring lists.links.items) lists.firsts.items k polygon at in
       let first = index_is lists.firsts.items k found.0 found.1 in
-      let of_k = (polygon_at regions table cycles lists is k (omega (arith, slice_get_within lists.firsts.items k found.0 found.1, is.listed.count))).1 in
-      subst (λ (p : Polygon). IsPolygonOf regions k p) (ap (polygon_from table cycles lists.links.items) first ∙ found.2) of_k;
+      let of_k = polygon_at regions table cycles lists is k (omega (arith, slice_get_within lists.firsts.items k found.0 found.1, is.listed.count)) in
+      let traced = subst (λ (i : ℕ). IsPolygonOf regions k (polygon_from (ring_traced table cycles) lists.links.items i)) first of_k.1 in
+      let within : found.0 < length lists.links.items = omega (arith, of_k.0, first) in
+      subst (λ (p : Polygon). IsPolygonOf regions k p) (sym (polygon_same ring (ring_traced table cycles) lists.links.items found.0
+      (λ i less. same i (omega (arith, less, is.listed.sized))) within) ∙ found.2) traced;
 }
 
 -- the links can be followed
@@ -177,14 +211,13 @@ cycles_few table cycles linked are =
         omega (arith, found.2, pairs_head (λ d e. d.first < e.first) c cs order found.0 found.1))
         (rising cs (pairs_tail (λ d e. d.first < e.first) c cs order))
 
-pub assembled_faces : (regions : RegionTable) (table : EdgeTable) (cycles : List Cycle) (lists : CycleLists) → IsLinkedTable table
-    → IsAssembled regions table cycles lists → AreFaces table cycles lists
-assembled_faces regions table cycles lists linked is = record {
-  linked = linked;
-  begin = cycles_begin table cycles linked is.cycles_are;
-  sized = is.listed.sized;
+pub assembled_faces : (regions : RegionTable) (table : EdgeTable) (cycles : List Cycle) (lists : CycleLists) (rings : RingCorners)
+    → IsAssembled regions table cycles lists → AreRings table cycles rings → AreFaces rings lists
+assembled_faces regions table cycles lists rings is are = record {
+  in_rings = are.in_rings;
+  sized = omega (arith, are.sized, is.listed.sized);
   rising = is.listed.rising;
   shells = λ k first at.
       let within = (polygon_at regions table cycles lists is k (omega (arith, slice_get_within lists.firsts.items k first at, is.listed.count))).0 in
-      omega (arith, within, is.listed.sized, index_is lists.firsts.items k first at);
+      omega (arith, within, index_is lists.firsts.items k first at);
 }

@@ -19,7 +19,7 @@ after_push : (next : List ℕ) (n i : ℕ) → number_after next (suc n) i ≡ s
 after_push next zero i = refl
 after_push next (suc n) i = after_push next n (slice_index next i)
 
-numbers_push : (next : List ℕ) (n i : ℕ) → numbers_from next (suc n) i ≡ numbers_from next n i ++ number_after next n i ∷ []
+pub numbers_push : (next : List ℕ) (n i : ℕ) → numbers_from next (suc n) i ≡ numbers_from next n i ++ number_after next n i ∷ []
 numbers_push next zero i = refl
 numbers_push next (suc n) i = ap (λ (is : List ℕ). i ∷ is) (numbers_push next n (slice_index next i))
 

@@ -1,9 +1,12 @@
-// Finds the cycles of a table's links.
-ghost use Rattle.std.specs.Prelude.{◌≡◌, ◌+◌, ◌^◌, ◌<◌, IfOk, OnOk, length, vec_len};
+// Finds the cycles of a table's links, and the corners where they turn.
+ghost use Rattle.std.specs.Prelude.{◌≡◌, ◌+◌, ◌++◌, ◌^◌, ◌<◌, IfOk, OnOk, length, vec_len};
+ghost use Rattle.ring_faces.specs.Inner.Chains.{AreRings, ring_along};
 ghost use Rattle.ring_faces.specs.Inner.Cycles.{AreAllCycles, AreFound, AreMarks, IsFree, IsRound, MarksThese, numbers_of};
-ghost use Rattle.ring_faces.specs.Inner.Tables.{IsLinkedTable};
+ghost use Rattle.ring_faces.specs.Inner.Tables.{IsLinkedTable, edge_at};
+ghost use Rattle.ring_faces.specs.Inner.Turns.{AddsTurn, is_level as is_level_edge, points_of};
 
-use edge_trace::EdgeTable;
+use crate::rings::RingCorners;
+use edge_trace::{Corner, EdgeTable};
 use std::alloc::{AllocError, Global};
 
 // A cycle: the number of its first edge, and how many edges it has.
@@ -13,61 +16,112 @@ pub(crate) struct Cycle {
     pub(crate) edges: u32,
 }
 
-// Walks the cycle of an edge that isn't marked, and marks its edges.
-fn walk(edges: &EdgeTable, marks: &mut [bool], first: u32) -> Cycle
+// All cycles, each from the first of its edges, in the order of these, and their rings.
+#[derive(Drop)]
+pub(crate) struct Cycles {
+    pub(crate) cycles: Vec<Cycle>,
+    pub(crate) rings: RingCorners,
+}
+
+// Whether an edge runs along a row.
+fn is_level(edges: &EdgeTable, e: u32) -> bool
+    requires { e < length edges.now.edges }
+    ensures { result ≡ is_level_edge (edge_at edges.now e) }
+{
+    edges.start(e).row == edges.end(e).row
+}
+
+// Adds the corner where an edge begins, unless the edge goes on as the one before; answers whether it is level.
+fn push_turn(
+    edges: &EdgeTable,
+    corners: &mut Vec<Corner>,
+    e: u32,
+    level: bool,
+) -> Result<bool, AllocError>
+    requires { e < length edges.now.edges }
+    ensures level { IfOk result (λ now. now ≡ is_level_edge (edge_at edges.now e)) }
+    ensures turn { OnOk result
+        (AddsTurn (edge_at edges.now e) level (points_of corners.old.items) (points_of corners.new.items)) }
+{
+    let now = is_level(edges, e);
+    if now == level {
+        return Ok(now);
+    }
+    corners.push(edges.start(e))?;
+    Ok(now)
+}
+
+// Walks the cycle of an edge that isn't marked, marks its edges, and adds the corners where they turn.
+fn walk(
+    edges: &EdgeTable,
+    marks: &mut [bool],
+    corners: &mut Vec<Corner>,
+    first: u32,
+) -> Result<Cycle, AllocError>
     requires linked { IsLinkedTable edges.now }
     requires few { length edges.now.edges < 2 ^ 32 }
     requires marks { AreMarks edges.now.next marks.old }
     requires first { first < length edges.now.next }
     requires free { IsFree marks.old first }
-    ensures first { result.first ≡ first }
-    ensures round { IsRound edges.now.next result }
-    ensures marks { MarksThese (numbers_of edges.now.next result) marks.old marks.new }
+    ensures first { IfOk result (λ cycle. cycle.first ≡ first) }
+    ensures round { IfOk result (IsRound edges.now.next) }
+    ensures marks { IfOk result (λ cycle. MarksThese (numbers_of edges.now.next cycle) marks.old marks.new) }
+    ensures corners { IfOk result (λ cycle.
+        points_of corners.new.items ≡ points_of corners.old.items ++ ring_along edges.now cycle) }
 {
     let mut count = 0;
     let mut at = first;
+    let mut level = !is_level(edges, first);
     'walk: while !marks[at as usize] {
         marks[at as usize] = true;
         count += 1;
+        level = push_turn(edges, corners, at, level)?;
         at = edges.next(at);
     }
-    Cycle {
+    Ok(Cycle {
         first,
         edges: count,
-    }
+    })
 }
 
-// Adds the cycle of an edge, unless it was found by an earlier edge.
-fn find(
-    edges: &EdgeTable,
-    marks: &mut [bool],
-    cycles: &mut Vec<Cycle>,
-    e: u32,
-) -> Result<(), AllocError>
-    requires linked { IsLinkedTable edges.now }
-    requires few { length edges.now.edges < 2 ^ 32 }
-    requires edge { e < length edges.now.next }
-    requires found { AreFound edges.now.next cycles.old.items marks.old e }
-    ensures { OnOk result (AreFound edges.now.next cycles.new.items marks.new (e + 1)) }
-{
-    if marks[e as usize] {
-        return Ok(());
+impl Cycles {
+    // Adds the cycle of an edge and its ring, unless it was found by an earlier edge.
+    fn find(&mut self, edges: &EdgeTable, marks: &mut [bool], e: u32) -> Result<(), AllocError>
+        requires linked { IsLinkedTable edges.now }
+        requires few { length edges.now.edges < 2 ^ 32 }
+        requires edge { e < length edges.now.next }
+        requires found { AreFound edges.now.next self.old.cycles.items marks.old e }
+        requires rings { AreRings edges.now self.old.cycles.items self.old.rings }
+        ensures found { OnOk result (AreFound edges.now.next self.new.cycles.items marks.new (e + 1)) }
+        ensures rings { OnOk result (AreRings edges.now self.new.cycles.items self.new.rings) }
+    {
+        if marks[e as usize] {
+            return Ok(());
+        }
+        let cycle = walk(edges, marks, &mut self.rings.corners, e)?;
+        self.rings.starts.push(self.rings.corners.len())?;
+        self.cycles.push(cycle)?;
+        Ok(())
     }
-    let cycle = walk(edges, marks, e);
-    cycles.push(cycle)?;
-    Ok(())
-}
 
-// All cycles, each from the first of its edges, in the order of these. The only error is want of memory.
-pub(crate) fn cycles_of(alloc: Global, edges: &EdgeTable) -> Result<Vec<Cycle>, AllocError>
-    requires linked { IsLinkedTable edges.now }
-    ensures all { IfOk result (λ cycles. AreAllCycles edges.now.next cycles.items) }
-    ensures few { IfOk result (λ cycles. vec_len cycles < 2 ^ 32) }
-{
-    let mut marks = vec![in alloc; false; edges.count() as usize]?;
-    let mut cycles = Vec::new(alloc);
-    for e in 0..edges.count() {
-        find(edges, &mut marks, &mut cycles, e)?;
+    // Walks each edge once. The only error is want of memory.
+    pub(crate) fn of(alloc: Global, edges: &EdgeTable) -> Result<Cycles, AllocError>
+        requires linked { IsLinkedTable edges.now }
+        ensures all { IfOk result (λ found. AreAllCycles edges.now.next found.cycles.items) }
+        ensures few { IfOk result (λ found. vec_len found.cycles < 2 ^ 32) }
+        ensures rings { IfOk result (λ found. AreRings edges.now found.cycles.items found.rings) }
+    {
+        let mut marks = vec![in alloc; false; edges.count() as usize]?;
+        let mut found = Cycles {
+            cycles: Vec::new(alloc),
+            rings: RingCorners {
+                corners: Vec::new(alloc),
+                starts: vec![in alloc; 0; 1]?,
+            },
+        };
+        for e in 0..edges.count() {
+            found.find(edges, &mut marks, e)?;
+        }
+        Ok(found)
     }
-    Ok(cycles)
 }

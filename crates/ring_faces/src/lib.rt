@@ -6,6 +6,7 @@ mod faces;
 mod laws;
 mod lists;
 mod polygon;
+mod rings;
 
 pub use faces::Faces;
 pub use laws::{canonical_polygons_fit, each_has_one_polygon, labelled_by_sides};

@@ -1,5 +1,6 @@
 // Rings and polygons as lists of corners.
 ghost use Rattle.std.specs.Prelude.{◌≡◌, ◌↔◌, ◌++◌, ◌∷◌, [], IfOk, IsTrue, OnErr, OnOk, length, map, option_map, slice_get};
+ghost use Rattle.ring_faces.specs.Inner.Turns.{points_of};
 
 use edge_trace::Corner;
 use std::alloc::{AllocError, Global};
@@ -30,12 +31,13 @@ impl Ring {
         }
     }
 
-    // No corner, and room for so many.
-    pub(crate) fn with_capacity(alloc: Global, room: usize) -> Result<Ring, AllocError>
-        ensures { IfOk result (λ ring. ring ≡ []) }
+    // These corners.
+    pub(crate) fn of(alloc: Global, corners: &[Corner]) -> Result<Ring, AllocError>
+        ensures { IfOk result (λ ring. ring ≡ points_of corners.now) }
     {
-        let corners = Vec::with_capacity(alloc, room)?;
-        Ok(Ring { corners })
+        let mut ring = Ring::new(alloc);
+        ring.corners.extend_from_slice(corners)?;
+        Ok(ring)
     }
 
     /// Adds a corner at the end. A refusal leaves the list as it was.

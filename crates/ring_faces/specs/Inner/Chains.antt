@@ -1,12 +1,14 @@
 -- The cycles of each component as a linked list of their indices, and the polygons that they make.
-use Rattle.std.specs.Prelude.{◌≡◌, ℕ, zero, suc, ◌<◌, ◌≤◌, ◌↔◌, List, [], ◌∷◌, Some, AllPairs, Contains, length, map, nat_lt, slice_get, slice_index, unwrap_or, if◌then◌else◌}
+use Rattle.std.specs.Prelude.{◌≡◌, ℕ, zero, suc, ◌+◌, ◌-◌, ◌<◌, ◌≤◌, ◌↔◌, List, [], ◌∷◌, Some, AllPairs, Contains, drop, length, map, nat_lt, slice_get, slice_index, take, unwrap_or, if◌then◌else◌}
 use Rattle.region_label.specs.Labelling.{RegionTable}
+use Rattle.edge_trace.specs.Edge.{Corner}
 use Rattle.edge_trace.specs.EdgeTable.{EdgeTable, IsEdgeOf}
 use Rattle.ring_faces.specs.LatticePolygon.{Polygon}
 use Rattle.ring_faces.specs.Ring.{Ring}
-use Rattle.ring_faces.specs.Inner.Turns.{turns_of}
-use Rattle.ring_faces.specs.Inner.Tables.{IsLinkedTable, edges_along}
+use Rattle.ring_faces.specs.Inner.Turns.{points_of, turns_of}
+use Rattle.ring_faces.specs.Inner.Tables.{edges_along}
 use Rattle.ring_faces.specs.declared.cycles.Cycle.{Cycle}
+use Rattle.ring_faces.specs.declared.rings.RingCorners.{RingCorners}
 use Rattle.ring_faces.specs.declared.lists.CycleLists.{CycleLists}
 
 -- at most so many of the indices that are linked from one on; an index past the links ends them
@@ -55,29 +57,53 @@ ring_along table cycle = turns_of (edges_along table cycle)
 abbrev pub cycle_at : List Cycle → ℕ → Cycle
 cycle_at cycles i = unwrap_or (slice_get cycles i) (record { first = 0; edges = 0 })
 
--- the rings of the cycles that are linked from one on
-abbrev pub rings_from : EdgeTable → List Cycle → List ℕ → ℕ → List Ring
-rings_from table cycles links at =
-    map (λ i. ring_along table (cycle_at cycles i)) (chain_from links (length links) at)
+-- the ring of the cycle at an index, by its edges
+abbrev pub ring_traced : EdgeTable → List Cycle → ℕ → Ring
+ring_traced table cycles i = ring_along table (cycle_at cycles i)
 
--- the polygon whose shell is the cycle at this index
-abbrev pub polygon_from : EdgeTable → List Cycle → List ℕ → ℕ → Polygon
-polygon_from table cycles links first = record {
-  shell = ring_along table (cycle_at cycles first);
-  holes = rings_from table cycles links (slice_index links first);
+-- the corners from one index up to another
+abbrev pub between : List Corner → ℕ → ℕ → List Corner
+between corners from to = take (to - from) (drop from corners)
+
+-- the ring at an index, as it was kept
+abbrev pub ring_at : RingCorners → ℕ → Ring
+ring_at rings i = between (points_of rings.corners.items)
+    (slice_index rings.starts.items i) (slice_index rings.starts.items (i + 1))
+
+-- the rings lie in the list of corners
+pub record AreInRings (rings : RingCorners) : Type 0 where
+  pub within : (i : ℕ) → i < length rings.starts.items → slice_index rings.starts.items i ≤ length rings.corners.items
+  pub rising : (i : ℕ) → i + 1 < length rings.starts.items
+      → slice_index rings.starts.items i ≤ slice_index rings.starts.items (i + 1)
+
+-- the rings of these cycles are kept
+pub record AreRings (table : EdgeTable) (cycles : List Cycle) (rings : RingCorners) : Type 0 where
+  pub sized : length rings.starts.items ≡ length cycles + 1
+  pub end : slice_index rings.starts.items (length cycles) ≡ length rings.corners.items
+  pub in_rings : AreInRings rings
+  pub each : (i : ℕ) → i < length cycles → ring_at rings i ≡ ring_traced table cycles i
+
+-- the rings that are linked from one on
+abbrev pub rings_from : (ℕ → Ring) → List ℕ → ℕ → List Ring
+rings_from ring links at = map ring (chain_from links (length links) at)
+
+-- the polygon whose shell is the ring at this index
+abbrev pub polygon_from : (ℕ → Ring) → List ℕ → ℕ → Polygon
+polygon_from ring links first = record {
+  shell = ring first;
+  holes = rings_from ring links (slice_index links first);
 }
 
-abbrev pub polygons_of : EdgeTable → List Cycle → CycleLists → List Polygon
-polygons_of table cycles lists = map (polygon_from table cycles lists.links.items) lists.firsts.items
+abbrev pub polygons_of : (ℕ → Ring) → CycleLists → List Polygon
+polygons_of ring lists = map (polygon_from ring lists.links.items) lists.firsts.items
 
 -- each cycle begins with an edge of the table
 abbrev pub CyclesBegin : EdgeTable → List Cycle → Type 0
 CyclesBegin table cycles = (cycle : Cycle) → Contains cycles cycle → cycle.first < length table.edges
 
--- the links of edges and of cycles can be followed
-pub record AreFaces (table : EdgeTable) (cycles : List Cycle) (lists : CycleLists) : Type 0 where
-  pub linked : IsLinkedTable table
-  pub begin : CyclesBegin table cycles
-  pub sized : length lists.links.items ≡ length cycles
+-- the rings are kept, and their links can be followed
+pub record AreFaces (rings : RingCorners) (lists : CycleLists) : Type 0 where
+  pub in_rings : AreInRings rings
+  pub sized : length rings.starts.items ≡ length lists.links.items + 1
   pub rising : AreRising lists.links.items
-  pub shells : (k first : ℕ) → slice_get lists.firsts.items k ≡ Some first → first < length cycles
+  pub shells : (k first : ℕ) → slice_get lists.firsts.items k ≡ Some first → first < length lists.links.items
