@@ -14,14 +14,14 @@ use Rattle.asc_grid.specs.declared.grid.Asc.{Asc}
 use Rattle.region_label.specs.Labelling.{IsLabelling, RegionTable}
 use Rattle.region_parts.specs.Parts.{items_in, parts_of}
 use Rattle.region_parts.proofs.PickLemmas.{all_picked, each_alone, maps_by, parts_below}
-use Rattle.ring_faces.specs.Ring.{Ring}
-use Rattle.ring_faces.specs.LatticePolygon.{Polygon, rings_of}
+use Rattle.ring_faces.specs.LatticePolygon.{Polygon}
 use Rattle.ring_faces.specs.Faces.{ArePolygonsOf, FitsGrid}
 use Rattle.ring_faces.proofs.FitLemmas.{fits_grid}
-use Rattle.wkt_text.specs.Geometry.{IsPolygon, IsRing, last_from}
+use Rattle.wkt_text.specs.Geometry.{IsPolygon}
 use Rattle.wkt_text.specs.declared.geometry.Pt.{Pt}
 use Rattle.ogr_csv.specs.Rows.{line_of}
-use Rattle.tool_outcome.specs.Polygonize.{path_of, paths_of, point_of, row_of, shape_of, value_of}
+use Rattle.tool_outcome.proofs.WrittenLemmas.{closed_paths}
+use Rattle.tool_outcome.specs.Polygonize.{paths_of, row_of, shape_of, value_of}
 use Rattle.wkt_text.specs.declared.geometry.Geometry.TheVariants as geometry
 use Rattle.tool_run.specs.Inner.Layer.{HasShape, components_in, rows_left}
 use Rattle.tool_run.specs.Inner.Rows.{AreAmong, AreComponents, AreRowsOver, AreTraced, polygon_at, shapes_of}
@@ -78,28 +78,6 @@ row_and_rest row xs i x before is =
     let at : slice_get (map row xs) i ≡ Some (row x) = slice_get-map row xs i ∙ ap (option_map row) is in
     ap (λ rows. before ++ flat_map line_of rows) (drop_at (map row xs) i (row x) at)
     ∙ sym (append_assoc before (line_of (row x)) (flat_map line_of (drop (i + 1) (map row xs))))
-
--- rings that are written
-
-last_added : (p q : Pt) (path : List Pt) → last_from p (path ++ q ∷ []) ≡ q
-last_added p q [] = refl
-last_added p q (r ∷ path) = last_added r q path
-
-closed_path : (frame : Frame) (ring : Ring) → 4 ≤ length ring → IsRing (path_of frame ring)
-closed_path frame [] long = absurd (omega (arith, long))
-closed_path frame (first ∷ others) long =
-    let ends : map (point_of frame) (others ++ first ∷ []) ≡ map (point_of frame) others ++ point_of frame first ∷ [] = map-append (point_of frame) others (first ∷ []) in
-    record {
-      long = grind (arith, common_steps, long);
-      closed = sym (ap (last_from (point_of frame first)) ends ∙ last_added (point_of frame first) (point_of frame first) (map (point_of frame) others));
-    }
-
--- the rings of a polygon that fits can be written
-pub closed_paths : (frame : Frame) (polygon : Polygon) → FitsGrid frame.nrows frame.ncols polygon → All IsRing (paths_of frame polygon)
-closed_paths frame polygon fits =
-    let each : All (λ ring. IsRing (path_of frame ring)) (rings_of polygon) =
-    All-from_get_or (λ ring. IsRing (path_of frame ring)) (rings_of polygon) [] (λ i inside. closed_path frame (get_or (rings_of polygon) i []) (All-get_or (λ ring. 4 ≤ length ring) (rings_of polygon) i [] inside fits.long)) in
-    All-map IsRing (path_of frame) (rings_of polygon) each
 
 -- the polygon of a number fits
 pub fit_at : (frame : Frame) (polygons : List Polygon) (j : ℕ) → All (FitsGrid frame.nrows frame.ncols) polygons → j < length polygons → FitsGrid frame.nrows frame.ncols (polygon_at polygons j)

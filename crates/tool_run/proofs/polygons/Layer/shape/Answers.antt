@@ -3,8 +3,9 @@ use Rattle.std.proofs.lemmas.Grind.{common_steps}
 use Rattle.std.proofs.lemmas.List.{get_or_default}
 use Rattle.wkt_text.specs.Geometry.{IsPolygon, IsRing}
 use Rattle.tool_outcome.specs.Polygonize.{paths_of}
+use Rattle.tool_outcome.proofs.WrittenLemmas.{closed_paths}
 use Rattle.tool_run.specs.Inner.Rows.{polygon_at}
-use Rattle.tool_run.proofs.LayerLemmas.{closed_paths, closed_polygons, fit_at, many_shape, one_shape, own_number, own_shape, part_within}
+use Rattle.tool_run.proofs.LayerLemmas.{closed_polygons, fit_at, many_shape, one_shape, own_number, own_shape, part_within}
 use Rattle.tool_run.proofs.polygons.Layer.shape.Goals as goal
 
 pub returns-in_default-clause-shape : goal.returns-in_default-clause-shape
