@@ -7,9 +7,12 @@ ghost use Rattle.fixed_coord.specs.Shortest.{decimals, shortest, shortest_size};
 use itoa::Buffer;
 use std::alloc::AllocError;
 
+// These are inlined, so that for a constant number of places nothing is divided by a number that isn't known beforehand.
+
 /// Appends the shortest decimal text of `value` units of 10^-places: a digit before the point, no exponent, no zeros
 /// at the end of the decimals, no point without decimals, a minus only before a number below zero. A refusal leaves
 /// `out` as it was.
+#[inline(always)]
 pub fn write_scaled(value: i128, places: u32, out: &mut Vec<u8>) -> Result<(), AllocError>
     requires places { places ≤ 10 }
     requires size { unsigned_abs value ≤ largest }
@@ -25,6 +28,7 @@ pub fn write_scaled(value: i128, places: u32, out: &mut Vec<u8>) -> Result<(), A
 }
 
 // The same, but a refusal leaves a part of the text.
+#[inline(always)]
 fn append_scaled(value: i128, places: u32, out: &mut Vec<u8>) -> Result<(), AllocError>
     requires places { places ≤ 10 }
     requires size { unsigned_abs value ≤ largest }
@@ -38,6 +42,7 @@ fn append_scaled(value: i128, places: u32, out: &mut Vec<u8>) -> Result<(), Allo
 }
 
 // Appends the text of a size.
+#[inline(always)]
 fn append_size(size: u128, places: u32, out: &mut Vec<u8>) -> Result<(), AllocError>
     requires places { places ≤ 10 }
     requires size { size ≤ largest }
@@ -57,6 +62,7 @@ fn append_size(size: u128, places: u32, out: &mut Vec<u8>) -> Result<(), AllocEr
 
 // The whole part of `size` units of `1 / scale`, and the units that are left. Most sizes are small, and a narrow
 // division is the faster one.
+#[inline(always)]
 fn split_size(size: u128, scale: u64) -> (u128, u64)
     requires { 0 < scale }
     ensures whole { result.0 ≡ size / scale }
