@@ -33,6 +33,7 @@ pub mod NumberLemmas
 pub mod TableLemmas
 pub mod FirstEdgeLemmas
 pub mod AssembleLemmas
+pub mod OwnerLemmas
 pub mod ChainLemmas
 pub mod ListedLemmas
 pub mod TracingLemmas

@@ -5,6 +5,7 @@ mod cycles;
 mod faces;
 mod laws;
 mod lists;
+mod owners;
 mod polygon;
 mod rings;
 

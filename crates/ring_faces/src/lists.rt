@@ -5,6 +5,7 @@ ghost use Rattle.ring_faces.specs.Faces.{AreJoinedBySides};
 ghost use Rattle.ring_faces.specs.Inner.Chains.{AreListed, CyclesBegin};
 
 use crate::cycles::Cycle;
+use crate::owners::owner_of;
 use edge_trace::EdgeTable;
 use region_label::Regions;
 use std::alloc::{AllocError, Global};
@@ -17,8 +18,16 @@ pub(crate) struct CycleLists {
 }
 
 impl CycleLists {
-    // Puts a cycle in front of its component's list.
-    fn put(&mut self, edges: &EdgeTable, cycles: &[Cycle], regions: &Regions, at: usize)
+    // Puts a cycle in front of its component's list; its component is looked for from a number of runs on, and found
+    // after so many.
+    fn put(
+        &mut self,
+        edges: &EdgeTable,
+        cycles: &[Cycle],
+        regions: &Regions,
+        at: usize,
+        runs: usize,
+    ) -> usize
         requires edges { HoldsBoundaries regions.now edges.now }
         requires sides { AreJoinedBySides regions.now }
         requires begin { CyclesBegin edges.now cycles.now }
@@ -28,10 +37,12 @@ impl CycleLists {
         ensures { AreListed regions.now edges.now cycles.now self.new at }
     {
         let (row, col) = edges.cell_of(cycles[at].first);
-        if let Some(k) = regions.region_of(row, col) {
+        let owner = owner_of(regions, row, col, runs);
+        if let Some(k) = owner.component {
             self.links[at] = self.firsts[k as usize];
             self.firsts[k as usize] = at as u32;
         }
+        owner.runs
     }
 
     // The cycles of each component in the order in which they stand. The only error is want of memory.
@@ -52,9 +63,10 @@ impl CycleLists {
         let firsts = vec![in alloc; end; regions.count() as usize]?;
         let mut lists = CycleLists { links, firsts };
         let mut at = cycles.len();
+        let mut runs = regions.table().runs().len();
         while at > 0 {
             at -= 1;
-            lists.put(edges, cycles, regions, at);
+            runs = lists.put(edges, cycles, regions, at, runs);
         }
         Ok(lists)
     }
