@@ -145,7 +145,7 @@ fn path_of(alloc: Global, frame: &Frame, ring: &Ring) -> Result<Path, AllocError
     requires corners { All (IsCornerOf frame.now.nrows frame.now.ncols) ring.now }
     ensures { IfOk result (λ path. path ≡ path_of frame.now ring.now) }
 {
-    let mut path = Path::with_capacity(alloc, ring.len() + 1)?;
+    let mut path = Path::with_capacity(alloc, ring.len().saturating_add(1))?;
     'corners: for corner in ring.as_slice() {
         path.push(point_of(frame, *corner))?;
     }
