@@ -35,11 +35,6 @@ use tool_outcome::{Fault, Status};
 use tool_words::{Job, PolygonizeJob};
 use wkt_text::{Geometry, Path, Polygons, Pt, Rings, write_geometry};
 
-// The texts of most polygons and of all values are no longer, so that few texts are moved while they grow.
-const TEXT_ROOM: usize = 256;
-
-const NUMBER_ROOM: usize = 20;
-
 // The components that have a row each: the value of each, and, where cells meet at corners too, its parts under side steps.
 #[derive(Drop)]
 struct Components {
@@ -170,20 +165,29 @@ fn paths_of(alloc: Global, frame: &Frame, polygon: &LatticePolygon) -> Result<Ri
     Ok(paths)
 }
 
-// The text of a value.
-fn number_text(alloc: Global, value: i64) -> Result<Vec<u8>, AllocError>
-    ensures { IfOk result (λ text. text.items ≡ shortest value 0) }
+// Puts the text of a value in the place of another text.
+fn put_number(value: i64, text: &mut Vec<u8>) -> Result<(), AllocError>
+    ensures { OnOk result (text.new.items ≡ shortest value 0) }
 {
-    let mut text = Vec::with_capacity(alloc, NUMBER_ROOM)?;
-    <i64 as Cell>::write(value, &mut text)?;
-    Ok(text)
+    text.clear();
+    <i64 as Cell>::write(value, text)?;
+    Ok(())
 }
 
-// The two fields of a component's row.
+// The two fields of a component's row. Each row of a piece takes the place of the one before, so that they seldom grow.
 #[derive(Drop)]
 struct Row {
     wkt: Vec<u8>,
     value: Vec<u8>,
+}
+
+impl Row {
+    fn new(alloc: Global) -> Row {
+        Row {
+            wkt: Vec::new(alloc),
+            value: Vec::new(alloc),
+        }
+    }
 }
 
 impl Layer {
@@ -234,36 +238,42 @@ impl Layer {
         Ok(Geometry::MultiPolygon(polygons))
     }
 
-    // The text of the shape of a component.
-    fn shape_text(&self, alloc: Global, k: u32) -> Result<Vec<u8>, AllocError>
+    // Puts the text of the shape of a component in the place of another text.
+    fn put_shape(&self, alloc: Global, k: u32, text: &mut Vec<u8>) -> Result<(), AllocError>
         requires rows { AreRowsOver self.now.frame self.now.values.items self.now.parts self.now.faces }
         requires k { k < length self.now.values.items }
-        ensures { IfOk result (λ text. HasShapeText self.now k text.items) }
+        ensures { OnOk result (HasShapeText self.now k text.new.items) }
     {
         let shape = self.shape(alloc, k)?;
-        let mut text = Vec::with_capacity(alloc, TEXT_ROOM)?;
-        write_geometry(&shape, &mut text)?;
-        Ok(text)
+        text.clear();
+        write_geometry(&shape, text)?;
+        Ok(())
     }
 
-    // The fields of the row of a component.
-    fn row(&self, alloc: Global, k: u32) -> Result<Row, AllocError>
+    // Puts the fields of the row of a component in the place of another row's.
+    fn put_row(&self, alloc: Global, k: u32, row: &mut Row) -> Result<(), AllocError>
         requires rows { AreRowsOver self.now.frame self.now.values.items self.now.parts self.now.faces }
         requires k { k < length self.now.values.items }
-        ensures { IfOk result (λ row. HasRow self.now k row.wkt.items row.value.items) }
+        ensures { OnOk result (HasRow self.now k row.new.wkt.items row.new.value.items) }
     {
-        let wkt = self.shape_text(alloc, k)?;
-        let value = number_text(alloc, self.values[k as usize])?;
-        Ok(Row { wkt, value })
+        self.put_shape(alloc, k, &mut row.wkt)?;
+        put_number(self.values[k as usize], &mut row.value)?;
+        Ok(())
     }
 
     // Adds the row of a component.
-    fn add_row(&self, alloc: Global, k: u32, rows: &mut RowsText) -> Result<(), AllocError>
+    fn add_row(
+        &self,
+        alloc: Global,
+        k: u32,
+        row: &mut Row,
+        rows: &mut RowsText,
+    ) -> Result<(), AllocError>
         requires rows { AreRowsOver self.now.frame self.now.values.items self.now.parts self.now.faces }
         requires k { k < length self.now.values.items }
         ensures { OnOk result (rows.old ++ rows_left self.now k ≡ rows.new ++ rows_left self.now (k + 1)) }
     {
-        let row = self.row(alloc, k)?;
+        self.put_row(alloc, k, row)?;
         rows.add(&[row.wkt.as_slice(), row.value.as_slice()])?;
         Ok(())
     }
@@ -275,9 +285,10 @@ impl Layer {
         ensures further { IfOk result (λ next. (from < length self.now.values.items → from < next) × (from ≤ next) × (next ≤ length self.now.values.items)) }
         ensures rows { IfOk result (λ next. rows.old ++ rows_left self.now from ≡ rows.new ++ rows_left self.now next) }
     {
+        let mut row = Row::new(alloc);
         let mut k = from;
         'rows: while (k as usize) < self.values.len() {
-            self.add_row(alloc, k, rows)?;
+            self.add_row(alloc, k, &mut row, rows)?;
             k += 1;
             if rows.is_long() {
                 return Ok(k);
