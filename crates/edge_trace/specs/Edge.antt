@@ -1,6 +1,6 @@
 -- Directed unit edges over the corners of cells, and the boundary of a set of cells. This project's own, after the
 -- rule that a polygon's rings run round what they enclose.
-use Rattle.std.specs.Prelude.{◌≡◌, ℕ, ◌+◌, ◌⊎◌, List, [], ◌∷◌, Contains}
+use Rattle.std.specs.Prelude.{◌≡◌, ℕ, ◌+◌, ◌⊎◌, ◌==◌, Bool, List, [], ◌∷◌, Contains}
 use Rattle.cell_base.specs.Raster.{Place}
 use Rattle.cell_base.specs.Steps.{AreNext}
 
@@ -19,6 +19,10 @@ turned e = (e.1, e.0)
 -- a unit edge: one long, along a row or along a column
 abbrev pub IsUnitEdge : Edge → Type 0
 IsUnitEdge e = ((e.0.0 ≡ e.1.0) × AreNext e.0.1 e.1.1) ⊎ ((e.0.1 ≡ e.1.1) × AreNext e.0.0 e.1.0)
+
+-- the edge runs along a row
+abbrev pub is_level : Edge → Bool
+is_level e = e.0.0 == e.1.0
 
 -- the unit edges round a cell that have it on their left: down its left side, to the right below it, up its right
 -- side, to the left above it

@@ -1,6 +1,6 @@
 ghost use Rattle.std.specs.Prelude.{◌≡◌, ◌^◌, ◌<◌, ◌≤◌, IfOk, length};
 ghost use Rattle.cell_base.specs.Raster.{most_cells};
-ghost use Rattle.edge_trace.specs.Edge.{Corner as Point};
+ghost use Rattle.edge_trace.specs.Edge.{Corner as Point, Edge, is_level};
 ghost use Rattle.edge_trace.specs.EdgeOrder.{AreInOrder};
 ghost use Rattle.edge_trace.specs.EdgeTable.{IsCellAt, IsEdgeAt, IsEdgeTable, IsFollowedBy};
 ghost use Rattle.edge_trace.specs.Inner.Sides.{edge_at};
@@ -100,6 +100,7 @@ impl EdgeTable {
         requires { e < length self.now.edges }
         ensures cell { IsCellAt self.now e (result.row, result.col) }
         ensures edge { IsEdgeAt self.now e (edge_at (result.row, result.col) result.side) }
+        ensures side { result.side < 4 }
         ensures row { result.row < 2 ^ 31 }
         ensures col { result.col < 2 ^ 31 }
     {
@@ -120,14 +121,10 @@ impl EdgeTable {
         ensures { (end : Point) × IsEdgeAt self.now e ((result.row, result.col), end) }
     {
         let Side { row, col, side } = self.side_of(e);
-        match side {
-            0 => Corner { row, col },
-            1 => Corner { row: row + 1, col },
-            2 => Corner {
-                row: row + 1,
-                col: col + 1,
-            },
-            _ => Corner { row, col: col + 1 },
+        // a sum costs less than a jump by the side
+        Corner {
+            row: row + (side + 1) / 2 % 2,
+            col: col + side / 2,
         }
     }
 
@@ -137,15 +134,19 @@ impl EdgeTable {
         ensures { (start : Point) × IsEdgeAt self.now e (start, (result.row, result.col)) }
     {
         let Side { row, col, side } = self.side_of(e);
-        match side {
-            0 => Corner { row: row + 1, col },
-            1 => Corner {
-                row: row + 1,
-                col: col + 1,
-            },
-            2 => Corner { row, col: col + 1 },
-            _ => Corner { row, col },
+        Corner {
+            row: row + 1 - side / 2,
+            col: col + (side + 1) / 2 % 2,
         }
+    }
+
+    /// Whether an edge runs along a row.
+    pub fn is_level(&self, e: u32) -> bool
+        requires { e < length self.now.edges }
+        ensures { (edge : Edge) × IsEdgeAt self.now e edge × (result ≡ is_level edge) }
+    {
+        // along the lower side, 1, or the upper, 3
+        self.numbers[e as usize] % 2 == 1
     }
 
     /// The cell on the left of an edge.

@@ -205,3 +205,29 @@ fn cells_that_are_not_valid_have_no_edges(rt: HostRuntime) -> Result<(), Fail> {
     assert!(rt; traces::<false>(rt.alloc(), (2, 1), &[-9999, -9999], &[])?);
     Ok(())
 }
+
+/// Which edges of these cells run along a row, by number.
+fn levels(alloc: Global, size: (u32, u32), cells: &[i64]) -> Result<Vec<bool>, AllocError>
+    requires cols { 0 < size.0 }
+    requires rows { 0 < size.1 }
+    requires small { size.0 * size.1 ≤ most_cells }
+    requires whole { length cells.now ≡ size.0 * size.1 }
+{
+    let grid = Grid::from_cells(size.0, size.1, Vec::from_slice(alloc, cells)?);
+    let valid = Mask::valid_of(alloc, &grid, None)?;
+    let regions = label::<i64, false>(alloc, &grid, &valid)?;
+    let table = EdgeTable::build(alloc, &regions)?;
+    let mut out = Vec::new(alloc);
+    for e in 0..table.count() {
+        out.push(table.is_level(e))?;
+    }
+    Ok(out)
+}
+
+// Down its left side, to the right below it, up its right side, to the left above it.
+#[test]
+fn every_second_edge_round_a_cell_is_level(rt: HostRuntime) -> Result<(), Fail> {
+    let found = levels(rt.alloc(), (1, 1), &[1])?;
+    assert!(rt; found.as_slice() == [false, true, false, true].as_slice());
+    Ok(())
+}
