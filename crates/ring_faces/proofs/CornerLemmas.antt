@@ -4,13 +4,14 @@ use Rattle.std.specs.Prelude.{drop, map, not, slice_index, take}
 use Rattle.std.proofs.lemmas.Bool.{cases_lt}
 use Rattle.std.proofs.lemmas.List.{append-nil, append_assoc, drop-append-le, drop_all, get_or_append_left, get_or_at, length-append, length-drop, length-map, map-append, take-append-le, take_all}
 use Rattle.std.proofs.lemmas.Option.{unwrap_or-slice_get}
-use Rattle.edge_trace.specs.Edge.{Corner, Edge}
+use Rattle.edge_trace.specs.Edge.{Corner, Edge, is_level}
 use Rattle.edge_trace.specs.EdgeTable.{EdgeTable}
 use Rattle.edge_trace.specs.declared.table.Corner as coded
 use Rattle.ring_faces.specs.declared.cycles.Cycle.{Cycle}
 use Rattle.ring_faces.specs.declared.rings.RingCorners.{RingCorners}
 use Rattle.ring_faces.specs.Inner.Cycles.{number_after, numbers_from}
-use Rattle.ring_faces.specs.Inner.Turns.{AddsTurn, at_turn, is_level, points_of, turns_after}
+use Rattle.ring_faces.specs.Ring.{points_of}
+use Rattle.ring_faces.specs.Inner.Turns.{AddsTurn, at_turn, turns_after}
 use Rattle.ring_faces.specs.Inner.Tables.{edge_at, edges_from}
 use Rattle.ring_faces.specs.Inner.Chains.{AreRings, between, cycle_at, ring_along, ring_at}
 use Rattle.ring_faces.proofs.NumberLemmas.{numbers_push}

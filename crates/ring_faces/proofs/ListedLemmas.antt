@@ -214,9 +214,11 @@ cycles_few table cycles linked are =
 pub assembled_faces : (regions : RegionTable) (table : EdgeTable) (cycles : List Cycle) (lists : CycleLists) (rings : RingCorners)
     → IsAssembled regions table cycles lists → AreRings table cycles rings → AreFaces rings lists
 assembled_faces regions table cycles lists rings is are = record {
-  in_rings = are.in_rings;
-  sized = omega (arith, are.sized, is.listed.sized);
-  rising = is.listed.rising;
+  linked = record {
+    in_rings = are.in_rings;
+    sized = omega (arith, are.sized, is.listed.sized);
+    rising = is.listed.rising;
+  };
   shells = λ k first at.
       let within = (polygon_at regions table cycles lists is k (omega (arith, slice_get_within lists.firsts.items k first at, is.listed.count))).0 in
       omega (arith, within, index_is lists.firsts.items k first at);

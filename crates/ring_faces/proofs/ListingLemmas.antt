@@ -7,10 +7,10 @@ use Rattle.std.proofs.lemmas.Bool.{eq-eqb, ne_eqb}
 use Rattle.std.proofs.lemmas.Bool.Decides.{nat_tests}
 use Rattle.std.proofs.lemmas.List.Elements.{All-cons, All-nil}
 use Rattle.cell_base.specs.Steps.{AreNext}
-use Rattle.edge_trace.specs.Edge.{Corner, Edge, IsUnitEdge, turned}
+use Rattle.edge_trace.specs.Edge.{Corner, Edge, IsUnitEdge, turned, is_level}
 use Rattle.ring_faces.specs.Ring.{Ring, cut, edges_of, nearer}
 use Rattle.ring_faces.specs.CanonicalPolygon.{IsTurn, ListsTurns}
-use Rattle.ring_faces.specs.Inner.Turns.{is_level, at_turn, turns_after, turns_of}
+use Rattle.ring_faces.specs.Inner.Turns.{at_turn, turns_after, turns_of}
 use Rattle.ring_faces.proofs.RingLemmas.{Leads}
 use Rattle.ring_faces.proofs.TurnLemmas.{HasWay, nearer_self, far_none, far_suc, Turning}
 use Rattle.ring_faces.proofs.SpotLemmas.{edge_is}

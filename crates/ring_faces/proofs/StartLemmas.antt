@@ -5,10 +5,10 @@ use Rattle.std.proofs.lemmas.Bool.{eq-eqb, ne_eqb}
 use Rattle.cell_base.specs.Raster.{Place}
 use Rattle.cell_base.specs.Order.{IsBefore}
 use Rattle.cell_base.proofs.ListDeciders.{contains_cases, contains_here, contains_there}
-use Rattle.edge_trace.specs.Edge.{Corner, Edge, IsUnitEdge, turned}
+use Rattle.edge_trace.specs.Edge.{Corner, Edge, IsUnitEdge, turned, is_level}
 use Rattle.ring_faces.specs.Ring.{Ring, edges_of}
 use Rattle.ring_faces.specs.CanonicalPolygon.{ListsTurns, StartsLeast}
-use Rattle.ring_faces.specs.Inner.Turns.{is_level, at_turn, turns_after, turns_of}
+use Rattle.ring_faces.specs.Inner.Turns.{at_turn, turns_after, turns_of}
 use Rattle.ring_faces.proofs.SpotLemmas.{IsBorder, edge_is, pair_is}
 use Rattle.ring_faces.proofs.PartLemmas.{IsOnePart, border_not_turned}
 use Rattle.ring_faces.proofs.CycleLemmas.{Follows, Runs, IsCycle, cycle_leads, next_of}

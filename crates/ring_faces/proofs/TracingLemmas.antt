@@ -1,10 +1,10 @@
 -- Walking along linked cycles and listing their rings.
-use Rattle.std.proofs.Common.{◌≡◌, ℕ, zero, suc, ◌+◌, ◌<◌, ◌≤◌, inl, inr, true, List, [], ◌∷◌, ◌++◌, length, Some, refl, sym, ap, ◌∙◌, arith}
-use Rattle.std.specs.Prelude.{map, nat_lt, slice_get, slice_index}
+use Rattle.std.proofs.Common.{◌≡◌, ℕ, zero, suc, ◌+◌, ◌<◌, ◌≤◌, inl, inr, true, List, [], ◌∷◌, length, Option, Some, None, get_or, drop, refl, sym, ap, ◌∙◌, arith}
+use Rattle.std.specs.Prelude.{map, nat_lt, option_map, slice_get, slice_index}
 use Rattle.std.proofs.lemmas.Bool.{cases_lt}
-use Rattle.std.proofs.lemmas.List.{append-nil, append_assoc}
+use Rattle.std.proofs.lemmas.Option.{same_Some}
 use Rattle.ring_faces.specs.Ring.{Ring}
-use Rattle.ring_faces.specs.LatticePolygon.{Polygon}
+use Rattle.ring_faces.specs.LatticePolygon.{Polygon, rings_of}
 use Rattle.ring_faces.specs.declared.lists.CycleLists.{CycleLists}
 use Rattle.ring_faces.specs.Inner.Chains.{AreRising, chain_from, polygon_from, polygons_of, rings_from}
 use Rattle.ring_faces.proofs.ChainLemmas.{below_test, not_below}
@@ -38,30 +38,28 @@ chain_next links rising at below =
     opened : (n : ℕ) → nat_lt at (length links) ≡ true → chain_from links (suc n) at ≡ at ∷ chain_from links n (slice_index links at)
     opened n test = rw test refl
 
--- one ring more
-pub rings_step : (ring : ℕ → Ring) (links : List ℕ) (old : List Ring) (at : ℕ) (all : List Ring)
-    → AreRising links → at < length links → old ++ rings_from ring links at ≡ all
-    → (old ++ ring at ∷ []) ++ rings_from ring links (slice_index links at) ≡ all
-rings_step ring links old at all rising within so_far =
-    let rest = rings_from ring links (slice_index links at) in
-    let next : rings_from ring links at ≡ ring at ∷ rest = ap (map ring) (chain_next links rising at within) in
-    append_assoc old (ring at ∷ []) rest ∙ sym (ap (λ (rs : List Ring). old ++ rs) next) ∙ so_far
+-- the rings that are left
 
-pub rings_end : (ring : ℕ → Ring) (links : List ℕ) (rings : List Ring) (at : ℕ) (all : List Ring)
-    → length links ≤ at → rings ++ rings_from ring links at ≡ all → rings ≡ all
-rings_end ring links rings at all past so_far =
-    let none : rings_from ring links at ≡ [] = ap (map ring) (chain_past links (length links) at past) in
-    sym (append-nil rings) ∙ sym (ap (λ (rs : List Ring). rings ++ rs) none) ∙ so_far
+pub rings_none : (ring : ℕ → Ring) (links : List ℕ) (at : ℕ) → length links ≤ at → rings_from ring links at ≡ []
+rings_none ring links at past = ap (map ring) (chain_past links (length links) at past)
 
--- the polygon of a component
-pub polygon_is : (ring : ℕ → Ring) (lists : CycleLists) (k first next : ℕ) (shell : Ring) (holes : List Ring)
-    → slice_get lists.firsts.items k ≡ Some first → slice_index lists.links.items first ≡ next
-    → shell ≡ ring first → holes ≡ rings_from ring lists.links.items next
-    → slice_get (polygons_of ring lists) k ≡ Some (record { shell = shell; holes = holes })
-polygon_is ring lists k first next shell holes at next_is shell_is holes_is =
-    let rests : rings_from ring lists.links.items (slice_index lists.links.items first) ≡ holes = ap
-    (rings_from ring lists.links.items) next_is ∙ sym holes_is in
-    let make : Ring → List Ring → Polygon = λ s hs. record { shell = s; holes = hs } in
-    map_get (polygon_from ring lists.links.items) lists.firsts.items k first at
-    ∙ ap (λ (s : Ring). Some (make s (rings_from ring lists.links.items (slice_index lists.links.items first)))) (sym shell_is)
-    ∙ ap (λ (hs : List Ring). Some (make shell hs)) rests
+pub rings_next : (ring : ℕ → Ring) (links : List ℕ) (at : ℕ) → AreRising links → at < length links
+    → rings_from ring links at ≡ ring at ∷ rings_from ring links (slice_index links at)
+rings_next ring links at rising within = ap (map ring) (chain_next links rising at within)
+
+-- the rings of a component
+pub rings_listed : (ring : ℕ → Ring) (lists : CycleLists) (k first : ℕ) → AreRising lists.links.items
+    → slice_get lists.firsts.items k ≡ Some first → first < length lists.links.items
+    → option_map rings_of (slice_get (polygons_of ring lists) k) ≡ Some (rings_from ring lists.links.items first)
+rings_listed ring lists k first rising at within =
+    ap (option_map rings_of) (map_get (polygon_from ring lists.links.items) lists.firsts.items k first at)
+    ∙ ap (λ (rs : List Ring). Some rs) (sym (rings_next ring lists.links.items first rising within))
+
+-- a polygon by its rings
+pub polygon_is : (found : Option Polygon) (shell : Ring) (holes : List Ring) → option_map rings_of found ≡ Some (shell ∷ holes)
+    → found ≡ Some (record { shell = shell; holes = holes })
+polygon_is None shell holes is = absurd cc
+polygon_is (Some polygon) shell holes is =
+    let same : polygon.shell ∷ polygon.holes ≡ shell ∷ holes = same_Some _ _ is in
+    let make : List Ring → Polygon = λ rings. record { shell = get_or rings 0 []; holes = drop 1 rings } in
+    ap (λ (rings : List Ring). Some (make rings)) same

@@ -5,10 +5,15 @@ use Rattle.std.specs.List.{zip, flat_map}
 use Rattle.cell_base.specs.Raster.{Place}
 use Rattle.edge_trace.specs.Edge.{Corner, Edge, IsUnitEdge, turned}
 use Rattle.edge_trace.specs.Crossing.{IsEnclosed}
+use Rattle.edge_trace.specs.declared.table.Corner as coded
 
 -- a ring, by its corners in order. The first isn't repeated at the end
 abbrev pub Ring : Type 0
 Ring = List Corner
+
+-- corners as the code has them
+abbrev pub points_of : List coded.Corner → List Corner
+points_of corners = map (λ (corner : coded.Corner). (corner.row, corner.col)) corners
 
 -- each member with the one after it, and the last with the first
 abbrev pub pairs_round : {A : Type 0} → List A → List (A × A)

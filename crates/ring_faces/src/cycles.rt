@@ -1,9 +1,11 @@
 // Finds the cycles of a table's links, and the corners where they turn.
 ghost use Rattle.std.specs.Prelude.{◌≡◌, ◌+◌, ◌++◌, ◌^◌, ◌<◌, IfOk, OnOk, length, vec_len};
+ghost use Rattle.edge_trace.specs.Edge.{is_level};
+ghost use Rattle.ring_faces.specs.Ring.{points_of};
 ghost use Rattle.ring_faces.specs.Inner.Chains.{AreRings, ring_along};
 ghost use Rattle.ring_faces.specs.Inner.Cycles.{AreAllCycles, AreFound, AreMarks, IsFree, IsRound, MarksThese, numbers_of};
 ghost use Rattle.ring_faces.specs.Inner.Tables.{IsLinkedTable, edge_at};
-ghost use Rattle.ring_faces.specs.Inner.Turns.{AddsTurn, is_level as is_level_edge, points_of};
+ghost use Rattle.ring_faces.specs.Inner.Turns.{AddsTurn};
 
 use crate::rings::RingCorners;
 use edge_trace::{Corner, EdgeTable};
@@ -23,14 +25,6 @@ pub(crate) struct Cycles {
     pub(crate) rings: RingCorners,
 }
 
-// Whether an edge runs along a row.
-fn is_level(edges: &EdgeTable, e: u32) -> bool
-    requires { e < length edges.now.edges }
-    ensures { result ≡ is_level_edge (edge_at edges.now e) }
-{
-    edges.start(e).row == edges.end(e).row
-}
-
 // Adds the corner where an edge begins, unless the edge goes on as the one before; answers whether it is level.
 fn push_turn(
     edges: &EdgeTable,
@@ -39,11 +33,11 @@ fn push_turn(
     level: bool,
 ) -> Result<bool, AllocError>
     requires { e < length edges.now.edges }
-    ensures level { IfOk result (λ now. now ≡ is_level_edge (edge_at edges.now e)) }
+    ensures level { IfOk result (λ now. now ≡ is_level (edge_at edges.now e)) }
     ensures turn { OnOk result
         (AddsTurn (edge_at edges.now e) level (points_of corners.old.items) (points_of corners.new.items)) }
 {
-    let now = is_level(edges, e);
+    let now = edges.is_level(e);
     if now == level {
         return Ok(now);
     }
@@ -71,7 +65,7 @@ fn walk(
 {
     let mut count = 0;
     let mut at = first;
-    let mut level = !is_level(edges, first);
+    let mut level = !edges.is_level(first);
     'walk: while !marks[at as usize] {
         marks[at as usize] = true;
         count += 1;

@@ -1,14 +1,16 @@
-ghost use Rattle.std.specs.Prelude.{◌≡◌, ◌<◌, IfOk, Some, length, slice_get};
+ghost use Rattle.std.specs.Prelude.{◌≡◌, ◌<◌, IfOk, Some, length, option_map, slice_get};
 ghost use Rattle.edge_trace.specs.EdgeOrder.{AreInOrder};
 ghost use Rattle.edge_trace.specs.EdgeTable.{IsEdgeTable};
 ghost use Rattle.region_label.specs.Labelling.{RegionTable};
 ghost use Rattle.ring_faces.specs.CanonicalPolygon.{IsPolygonOf};
 ghost use Rattle.ring_faces.specs.Faces.{AreJoinedBySides, ArePolygonsOf, polygon_of};
+ghost use Rattle.ring_faces.specs.LatticePolygon.{rings_of};
 
 use crate::cycles::Cycles;
 use crate::lists::CycleLists;
-use crate::polygon::LatticePolygon;
+use crate::polygon::{LatticePolygon, Ring, RingList};
 use crate::rings::RingCorners;
+use crate::walk::RingWalk;
 use edge_trace::EdgeTable;
 use region_label::Regions;
 use std::alloc::{AllocError, Global};
@@ -47,6 +49,15 @@ impl Faces {
         Ok(Faces { rings, lists })
     }
 
+    /// The rings of a component's polygon one by one, the shell first. It takes no memory.
+    pub fn rings(&self, k: u32) -> RingWalk<'_>
+        requires { k < length self.now }
+        ensures { option_map rings_of (slice_get self.now k) ≡ Some result }
+    {
+        let first = self.lists.firsts[k as usize];
+        RingWalk::from(&self.rings, &self.lists.links, first)
+    }
+
     /// The polygon of a component: the only canonical one, by the regions that were assembled. The only error is want of
     /// memory.
     pub fn polygon(&self, alloc: Global, k: u32) -> Result<LatticePolygon, AllocError>
@@ -55,11 +66,9 @@ impl Faces {
         ensures canonical { IfOk result (λ polygon. (regions : RegionTable)
             → ArePolygonsOf regions self.now → IsPolygonOf regions k (polygon_of polygon)) }
     {
-        let first = self.lists.firsts[k as usize] as usize;
-        let shell = self.rings.ring(alloc, first)?;
-        let holes = self
-            .rings
-            .rings(alloc, &self.lists.links, self.lists.links[first])?;
+        let mut rings = self.rings(k);
+        let shell = Ring::of(alloc, rings.next().unwrap())?;
+        let holes = RingList::of(alloc, rings)?;
         Ok(LatticePolygon { shell, holes })
     }
 }

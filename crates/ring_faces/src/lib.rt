@@ -8,7 +8,9 @@ mod lists;
 mod owners;
 mod polygon;
 mod rings;
+mod walk;
 
 pub use faces::Faces;
 pub use laws::{canonical_polygons_fit, each_has_one_polygon, labelled_by_sides};
 pub use polygon::{LatticePolygon, Ring, RingList};
+pub use walk::RingWalk;

@@ -1,7 +1,8 @@
 // Rings and polygons as lists of corners.
 ghost use Rattle.std.specs.Prelude.{◌≡◌, ◌↔◌, ◌++◌, ◌∷◌, [], IfOk, IsTrue, OnErr, OnOk, length, map, option_map, slice_get};
-ghost use Rattle.ring_faces.specs.Inner.Turns.{points_of};
+ghost use Rattle.ring_faces.specs.Ring.{points_of};
 
+use crate::walk::RingWalk;
 use edge_trace::Corner;
 use std::alloc::{AllocError, Global};
 use std::marker::Model;
@@ -101,6 +102,18 @@ impl RingList {
         RingList {
             rings: Vec::new(alloc),
         }
+    }
+
+    // These rings.
+    pub(crate) fn of(alloc: Global, rings: RingWalk<'_>) -> Result<RingList, AllocError>
+        ensures { IfOk result (λ list. list ≡ rings.entry) }
+    {
+        let mut list = RingList::new(alloc);
+        for corners in rings {
+            let ring = Ring::of(alloc, corners)?;
+            list.push(ring)?;
+        }
+        Ok(list)
     }
 
     /// Adds a ring at the end. A refusal leaves the list as it was.

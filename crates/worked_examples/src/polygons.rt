@@ -19,8 +19,8 @@ const HOLE: u64 = 88;
 const NEXT: u64 = 99;
 
 /// Adds the corners of a ring, each as row times 10 plus column.
-fn push_ring(out: &mut Vec<u64>, ring: &Ring) -> Result<(), AllocError> {
-    for corner in ring.as_slice() {
+fn push_ring(out: &mut Vec<u64>, corners: &[Corner]) -> Result<(), AllocError> {
+    for corner in corners {
         out.push(10 * corner.row as u64 + corner.col as u64)?;
     }
     Ok(())
@@ -28,10 +28,10 @@ fn push_ring(out: &mut Vec<u64>, ring: &Ring) -> Result<(), AllocError> {
 
 /// Adds the rings of a polygon.
 fn push_polygon(out: &mut Vec<u64>, polygon: &LatticePolygon) -> Result<(), AllocError> {
-    push_ring(out, &polygon.shell)?;
+    push_ring(out, polygon.shell.as_slice())?;
     for hole in polygon.holes.as_slice() {
         out.push(HOLE)?;
-        push_ring(out, hole)?;
+        push_ring(out, hole.as_slice())?;
     }
     Ok(())
 }
@@ -64,18 +64,40 @@ fn rings_of(alloc: Global, faces: &Faces, count: u32) -> Result<Vec<u64>, AllocE
     Ok(out)
 }
 
-/// The rings of the components of these cells under side steps.
-fn traced(alloc: Global, cells: &Grid<i64>, valid: &Mask) -> Result<Vec<u64>, AllocError>
+/// The same rings as they are lent.
+fn lent_rings(alloc: Global, faces: &Faces, count: u32) -> Result<Vec<u64>, AllocError>
+    requires { length faces.now ≡ count }
+{
+    let mut out = Vec::new(alloc);
+    for k in 0..count {
+        let mut mark = NEXT;
+        for corners in faces.rings(k) {
+            out.push(mark)?;
+            push_ring(&mut out, corners)?;
+            mark = HOLE;
+        }
+    }
+    Ok(out)
+}
+
+/// The rings of the components of these cells under side steps, as polygons and as they are lent.
+fn traced(
+    alloc: Global,
+    cells: &Grid<i64>,
+    valid: &Mask,
+) -> Result<(Vec<u64>, Vec<u64>), AllocError>
     requires cols { valid.now.ncols ≡ cells.now.ncols }
     requires rows { valid.now.nrows ≡ cells.now.nrows }
 {
     let regions = label::<i64, false>(alloc, cells, valid)?;
     let edges = EdgeTable::build(alloc, &regions)?;
     let faces = faces_of(alloc, cells, valid, &regions, edges)?;
-    rings_of(alloc, &faces, regions.count())
+    let rings = rings_of(alloc, &faces, regions.count())?;
+    let lent = lent_rings(alloc, &faces, regions.count())?;
+    Ok((rings, lent))
 }
 
-/// Whether the components of these cells under side steps have these polygons.
+/// Whether the components of these cells under side steps have these polygons, and lend their rings.
 fn makes(alloc: Global, size: (u32, u32), cells: &[i64], want: &[u64]) -> Result<bool, AllocError>
     requires cols { 0 < size.0 }
     requires rows { 0 < size.1 }
@@ -84,8 +106,8 @@ fn makes(alloc: Global, size: (u32, u32), cells: &[i64], want: &[u64]) -> Result
 {
     let grid = Grid::from_cells(size.0, size.1, Vec::from_slice(alloc, cells)?);
     let valid = Mask::valid_of(alloc, &grid, None)?;
-    let rings = traced(alloc, &grid, &valid)?;
-    Ok(rings.as_slice() == want)
+    let (rings, lent) = traced(alloc, &grid, &valid)?;
+    Ok(rings.as_slice() == want && lent.as_slice() == want)
 }
 
 #[test]

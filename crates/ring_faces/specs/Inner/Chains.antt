@@ -4,8 +4,8 @@ use Rattle.region_label.specs.Labelling.{RegionTable}
 use Rattle.edge_trace.specs.Edge.{Corner}
 use Rattle.edge_trace.specs.EdgeTable.{EdgeTable, IsEdgeOf}
 use Rattle.ring_faces.specs.LatticePolygon.{Polygon}
-use Rattle.ring_faces.specs.Ring.{Ring}
-use Rattle.ring_faces.specs.Inner.Turns.{points_of, turns_of}
+use Rattle.ring_faces.specs.Ring.{Ring, points_of}
+use Rattle.ring_faces.specs.Inner.Turns.{turns_of}
 use Rattle.ring_faces.specs.Inner.Tables.{edges_along}
 use Rattle.ring_faces.specs.declared.cycles.Cycle.{Cycle}
 use Rattle.ring_faces.specs.declared.rings.RingCorners.{RingCorners}
@@ -102,8 +102,12 @@ abbrev pub CyclesBegin : EdgeTable → List Cycle → Type 0
 CyclesBegin table cycles = (cycle : Cycle) → Contains cycles cycle → cycle.first < length table.edges
 
 -- the rings are kept, and their links can be followed
-pub record AreFaces (rings : RingCorners) (lists : CycleLists) : Type 0 where
+pub record AreLinkedRings (rings : RingCorners) (links : List ℕ) : Type 0 where
   pub in_rings : AreInRings rings
-  pub sized : length rings.starts.items ≡ length lists.links.items + 1
-  pub rising : AreRising lists.links.items
+  pub sized : length rings.starts.items ≡ length links + 1
+  pub rising : AreRising links
+
+-- and each component has a first ring
+pub record AreFaces (rings : RingCorners) (lists : CycleLists) : Type 0 where
+  pub linked : AreLinkedRings rings lists.links.items
   pub shells : (k first : ℕ) → slice_get lists.firsts.items k ≡ Some first → first < length lists.links.items

@@ -1,15 +1,6 @@
 -- The corners where a list of edges turns.
-use Rattle.std.specs.Prelude.{◌≡◌, ◌==◌, Bool, true, false, not, List, [], ◌∷◌, ◌++◌, map}
-use Rattle.edge_trace.specs.Edge.{Corner, Edge}
-use Rattle.edge_trace.specs.declared.table.Corner as coded
-
--- corners as the code has them
-abbrev pub points_of : List coded.Corner → List Corner
-points_of corners = map (λ (corner : coded.Corner). (corner.row, corner.col)) corners
-
--- the edge runs along a row
-abbrev pub is_level : Edge → Bool
-is_level e = e.0.0 == e.1.0
+use Rattle.std.specs.Prelude.{◌≡◌, Bool, true, false, not, List, [], ◌∷◌, ◌++◌}
+use Rattle.edge_trace.specs.Edge.{Corner, Edge, is_level}
 
 -- the corner in front of the others, where the flags differ
 abbrev pub at_turn : Bool → Bool → Corner → List Corner → List Corner

@@ -1,5 +1,5 @@
 use Rattle.std.proofs.Common.{◌-◌, length}
-use Rattle.ring_faces.specs.Inner.Turns.{points_of}
+use Rattle.ring_faces.specs.Ring.{points_of}
 use Rattle.ring_faces.proofs.CornerLemmas.{AreTurnsSoFar}
 use Rattle.ring_faces.proofs.NumberLemmas.{IsUnderWay}
 use Rattle.ring_faces.proofs.cycles.walk.Given as goal
