@@ -20,10 +20,7 @@ use Rattle.tool_words.specs.declared.fault.WordKind.TheVariants.{BadValue, Missi
 use Rattle.tool_words.specs.declared.job.Job.{Job}
 use Rattle.tool_words.specs.declared.job.Job.TheVariants.{Check, Contour, Polygonize, Rasterize, Sieve}
 use Rattle.tool_words.specs.declared.job.PolygonizeJob.{PolygonizeJob}
-
-or_none : {A : Type 0} (o p : Option A) → option_or o p ≡ None → (o ≡ None) × (p ≡ None)
-or_none None p is = (refl, is)
-or_none (Some a) p is = absurd (cc is)
+use Rattle.tool_words.proofs.NameLemmas.{enough_names, or_none}
 
 -- a name that is no option, in the form of its turn
 record IsInTurn (grammar : Grammar) (turn : ℕ) (word : Text) : Type 0 where
@@ -70,11 +67,7 @@ in_turn grammar k (p ∷ ps) i w right at =
 
 -- no name is missing
 enough : (n place : ℕ) (o : Option WordFault) → (if nat_lt n 2 then Some (At MissingName place) else o) ≡ None → 1 < n
-enough n place o is = decide (nat_lt n 2) refl
-  where
-    decide : (b : Bool) → nat_lt n 2 ≡ b → 1 < n
-    decide true few = absurd (cc (is, few))
-    decide false many = grind (arith, nat_tests, many)
+enough n place o is = omega (arith, enough_names n 2 place o is)
 
 -- a field's name isn't WKT
 field_fits : (w : Text) → form_of field_name w ≡ true → str_eq_ignore_ascii_case w (codes "WKT") ≡ false
