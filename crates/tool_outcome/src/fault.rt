@@ -41,7 +41,7 @@ pub enum Fault {
     /// The extent and the size make no frame.
     #[error("no frame")]
     Frame(FrameFault),
-    /// The destination could not be made, or a write to it failed.
+    /// The destination could not be made, or a write to it or to standard output failed.
     #[error("write failed")]
     WriteFault,
     /// Memory ran out.

@@ -15,7 +15,7 @@ pub enum Status {
     Missing,
     /// A read failed.
     ReadFault,
-    /// The destination could not be made, or a write to it failed.
+    /// The destination could not be made, or a write to it or to standard output failed.
     WriteFault,
     /// Memory ran out.
     NoMemory,
