@@ -1,12 +1,12 @@
 -- The rows of a layer, one by one.
 use Rattle.std.proofs.Common.{◌≡◌, ◌≢◌, ◌∙◌, ◌<◌, ◌≤◌, ◌+◌, ◌^◌, ◌++◌, ◌∷◌, [], ℕ, ℤ, Bool, zero, suc, List, Option, Some, None, All, length, map, take, drop, get_or, ap, refl, sym, subst, arith, append_assoc}
-use Rattle.std.specs.Prelude.{slice_get, option_map}
+use Rattle.std.specs.Prelude.{slice_get, option_map, unwrap_or}
 use Rattle.std.specs.List.{flat_map, zip}
 use Rattle.std.proofs.lemmas.Grind.{common_steps}
 use Rattle.std.proofs.lemmas.List.{length-map, map-append}
 use Rattle.std.proofs.lemmas.List.FromFn.{length-map-range_with_len}
 use Rattle.std.proofs.lemmas.List.Elements.{All-from_get_or, All-get_or, All-map}
-use Rattle.std.proofs.lemmas.Option.{gets, get_or_from_slice_get, none-some, same_Some, slice_get-map, slice_get_within, unwrap_or-slice_get}
+use Rattle.std.proofs.lemmas.Option.{gets, get_or_from_slice_get, none-some, same_Some, slice_get-get_or, slice_get-map, slice_get_within, unwrap_or-slice_get}
 use Rattle.cell_base.specs.Raster.{Raster}
 use Rattle.cell_base.specs.Steps.{eight, four}
 use Rattle.geo_transform.specs.declared.frame.Frame.{Frame}
@@ -14,7 +14,8 @@ use Rattle.asc_grid.specs.declared.grid.Asc.{Asc}
 use Rattle.region_label.specs.Labelling.{IsLabelling, RegionTable}
 use Rattle.region_parts.specs.Parts.{items_in, parts_of}
 use Rattle.region_parts.proofs.PickLemmas.{all_picked, each_alone, maps_by, parts_below}
-use Rattle.ring_faces.specs.LatticePolygon.{Polygon}
+use Rattle.ring_faces.specs.LatticePolygon.{Polygon, rings_of}
+use Rattle.ring_faces.specs.Ring.{Ring}
 use Rattle.ring_faces.specs.Faces.{ArePolygonsOf, FitsGrid}
 use Rattle.ring_faces.proofs.FitLemmas.{fits_grid}
 use Rattle.wkt_text.specs.Geometry.{IsPolygon}
@@ -84,6 +85,14 @@ pub fit_at : (frame : Frame) (polygons : List Polygon) (j : ℕ) → All (FitsGr
 fit_at frame polygons j fit within =
     let none : Polygon = record { shell = []; holes = [] } in
     subst (FitsGrid frame.nrows frame.ncols) (sym (unwrap_or-slice_get polygons j none)) (All-get_or (FitsGrid frame.nrows frame.ncols) polygons j none within fit)
+
+-- the rings of the polygon of a number
+pub rings_at : (polygons : List Polygon) (j : ℕ) (rings : List Ring) → j < length polygons → option_map rings_of (slice_get polygons j) ≡ Some rings → rings ≡ rings_of (polygon_at polygons j)
+rings_at polygons j rings within is =
+    let none : Polygon = record { shell = []; holes = [] } in
+    let at : slice_get polygons j ≡ Some (get_or polygons j none) = slice_get-get_or polygons j none within in
+    let same = same_Some rings (rings_of (get_or polygons j none)) (sym is ∙ ap (option_map rings_of) at) in
+    same ∙ ap (λ (polygon : Option Polygon). rings_of (unwrap_or polygon none)) (sym at)
 
 -- the polygons of numbers can be written
 pub closed_polygons : (frame : Frame) (polygons : List Polygon) (numbers : List ℕ) → All (FitsGrid frame.nrows frame.ncols) polygons → All (λ j. j < length polygons) numbers → All IsPolygon (map (λ j. paths_of frame (polygon_at polygons j)) numbers)

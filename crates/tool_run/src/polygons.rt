@@ -6,7 +6,8 @@ ghost use Rattle.cell_base.specs.Steps.{four};
 ghost use Rattle.fixed_coord.specs.Shortest.{shortest};
 ghost use Rattle.geo_transform.specs.Frame.{IsFrame};
 ghost use Rattle.region_label.specs.Labelling.{IsLabelling};
-ghost use Rattle.ring_faces.specs.Faces.{AreJoinedBySides, ArePolygonsOf, FitsGrid, IsCornerOf, polygon_of};
+ghost use Rattle.ring_faces.specs.Faces.{AreJoinedBySides, ArePolygonsOf, FitsGrid, IsCornerOf};
+ghost use Rattle.ring_faces.specs.Ring.{points_of};
 ghost use Rattle.ogr_csv.specs.Rows.{line_of};
 ghost use Rattle.tool_outcome.specs.Outcome.{CanBeDone, Does, LeavesPart};
 ghost use Rattle.tool_outcome.specs.Polygonize.{header_row, path_of, paths_of, point_of, row_of, value_of};
@@ -28,7 +29,7 @@ use geo_transform::Frame;
 use ogr_csv::RowsText;
 use region_label::{Regions, label};
 use region_parts::Parts;
-use ring_faces::{Faces, LatticePolygon, Ring};
+use ring_faces::{Faces, RingWalk};
 use rv_outside::Folder;
 use std::alloc::{AllocError, Global};
 use tool_outcome::{Fault, Status};
@@ -135,32 +136,32 @@ fn point_of(frame: &Frame, corner: Corner) -> Pt
 }
 
 // The points of a ring, the first again at the end.
-fn path_of(alloc: Global, frame: &Frame, ring: &Ring) -> Result<Path, AllocError>
+fn path_of(alloc: Global, frame: &Frame, ring: &[Corner]) -> Result<Path, AllocError>
     requires frame { IsFrame frame.now }
-    requires corners { All (IsCornerOf frame.now.nrows frame.now.ncols) ring.now }
-    ensures { IfOk result (λ path. path ≡ path_of frame.now ring.now) }
+    requires corners { All (IsCornerOf frame.now.nrows frame.now.ncols) (points_of ring.now) }
+    ensures { IfOk result (λ path. path ≡ path_of frame.now (points_of ring.now)) }
 {
     let mut path = Path::with_capacity(alloc, ring.len().saturating_add(1))?;
-    'corners: for corner in ring.as_slice() {
+    'corners: for corner in ring {
         path.push(point_of(frame, *corner))?;
     }
-    let Some(first) = ring.get(0) else {
+    let Some(first) = ring.first() else {
         return Ok(path);
     };
     path.push(point_of(frame, *first))?;
     Ok(path)
 }
 
-// The points of a polygon's rings, the shell first.
-fn paths_of(alloc: Global, frame: &Frame, polygon: &LatticePolygon) -> Result<Rings, AllocError>
+// The points of rings.
+fn paths_of(alloc: Global, frame: &Frame, rings: RingWalk<'_>) -> Result<Rings, AllocError>
     requires frame { IsFrame frame.now }
-    requires fits { FitsGrid frame.now.nrows frame.now.ncols (polygon_of polygon.now) }
-    ensures { IfOk result (λ paths. paths ≡ paths_of frame.now (polygon_of polygon.now)) }
+    requires corners { All (All (IsCornerOf frame.now.nrows frame.now.ncols)) rings }
+    ensures { IfOk result (λ paths. paths ≡ map (path_of frame.now) rings.entry) }
 {
     let mut paths = Rings::new(alloc);
-    paths.push(path_of(alloc, frame, &polygon.shell)?)?;
-    'holes: for hole in polygon.holes.as_slice() {
-        paths.push(path_of(alloc, frame, hole)?)?;
+    for corners in rings {
+        let path = path_of(alloc, frame, corners)?;
+        paths.push(path)?;
     }
     Ok(paths)
 }
@@ -198,8 +199,7 @@ impl Layer {
         requires j { j < length self.now.faces }
         ensures { IfOk result (λ rings. rings ≡ paths_of self.now.frame (polygon_at self.now.faces j)) }
     {
-        let polygon = self.faces.polygon(alloc, j)?;
-        let rings = paths_of(alloc, &self.frame, &polygon)?;
+        let rings = paths_of(alloc, &self.frame, self.faces.rings(j))?;
         Ok(rings)
     }
 
