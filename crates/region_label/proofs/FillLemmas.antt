@@ -1,13 +1,12 @@
 -- The fill of one component.
-use Rattle.std.proofs.Common.{◌≡◌, ◌≢◌, ℕ, ◌+◌, ◌<◌, ◌≤◌, inl, inr, Bool, List, [], ◌∷◌, ◌++◌, Option, Some, None, length, length-set, set, get_or, refl, ap, sym, ◌∙◌, subst, arith}
+use Rattle.std.proofs.Common.{◌≡◌, ◌≢◌, ℕ, ◌+◌, ◌<◌, ◌≤◌, inl, inr, List, [], ◌∷◌, ◌++◌, Option, Some, None, length, length-set, set, get_or, refl, ap, sym, ◌∙◌, subst, arith}
 use Rattle.std.specs.Prelude.{AllPairs, Contains, slice_get}
 use Rattle.std.specs.List.{range_with_len}
 use Rattle.std.proofs.lemmas.Bool.{cases_eq, cases_lt}
 use Rattle.std.proofs.lemmas.Grind.{common_steps}
 use Rattle.std.proofs.lemmas.List.FromFn.{get_or-range_with_len, length-range_with_len}
 use Rattle.std.proofs.lemmas.Option.{gets, same_Some, slice_get-get_or, slice_get_within}
-use Rattle.region_label.specs.Inner.Lists.{AreJoined, Fills, IsFilling, IsFree, IsLinked, IsLinkedToItself, IsNumbered, Joins, contacts}
-use Rattle.region_label.specs.declared.rows.RowRuns.{RowRuns}
+use Rattle.region_label.specs.Inner.Lists.{Fills, IsFilling, IsFree, IsLinked, IsLinkedToItself, IsNumbered, Joins}
 use Rattle.region_label.specs.declared.lists.RunLists.{RunLists}
 use Rattle.region_label.proofs.ListLemmas.{at_from_contains, contains_from_at, slice_get-set_other, slice_get-set_same}
 use Rattle.region_label.proofs.CountLaws.{no_longer}
@@ -24,12 +23,12 @@ pub record IsUnderWay (touch : ℕ → ℕ → Type 0) (start number : ℕ) (old
   pub firsts : new.firsts ≡ old.firsts
   pub count : new.count ≡ old.count
 
-only_start : (start i : ℕ) → Contains (start ∷ []) i → i ≡ start
+pub only_start : (start i : ℕ) → Contains (start ∷ []) i → i ≡ start
 only_start start i member =
     let first : member.0 ≡ 0 = omega (arith, member.1) in
     sym (member.2) ∙ ap (λ k. get_or (start ∷ []) k i) first
 
-linked_first : (links : List ℕ) (start : ℕ) → slice_get links start ≡ Some start → IsLinked links (start ∷ []) start start
+pub linked_first : (links : List ℕ) (start : ℕ) → slice_get links start ≡ Some start → IsLinked links (start ∷ []) start start
 linked_first links start itself = record {
   first = refl;
   once = λ i j d less within. absurd (omega (arith, less, within));
@@ -162,12 +161,3 @@ under_way_within touch start number old now last at done way =
     let at_is = way.filling.numbered at (contains_from_at way.list done at way.at_done) in
     let last_is = way.filling.numbered last (last_in now.links.items way.list start last way.filling.linked) in
     (omega (arith, slice_get_within now.components.items at (Some number) at_is, way.components), omega (arith, slice_get_within now.components.items last (Some number) last_is, way.components))
-
--- with the rows above and below all contacts of a run have joined
-pub both_joined : (connectivity : Bool) (rows : RowRuns) (at number : ℕ) (middle new : RunLists) (last end : ℕ) → AreJoined connectivity rows (λ row above. row ≡ above + 1) at middle → Joins (contacts connectivity rows) at number middle new last end → AreJoined connectivity rows (λ row below. below ≡ row + 1) at new → (j : ℕ) → contacts connectivity rows at j → IsNumbered new.components.items j
-both_joined connectivity rows at number middle new last end above joins below j contact = elim contact.touch.0 [
-  | inl up ↦
-      let had = above j contact.first contact.second contact.at_first contact.at_second up contact in
-      (had.0, joins.kept j had.0 had.1)
-  | inr down ↦ below j contact.first contact.second contact.at_first contact.at_second down contact
-]

@@ -1,20 +1,21 @@
 -- The fill of one component after another.
-use Rattle.std.proofs.Common.{◌≡◌, ℕ, ◌+◌, ◌<◌, ◌⊎◌, inl, inr, List, Option, Some, None, length, replicate, set, ap, sym, ◌∙◌, subst, arith}
+use Rattle.std.proofs.Common.{◌≡◌, ℕ, ◌+◌, ◌<◌, ◌⊎◌, inl, inr, List, [], ◌∷◌, ◌++◌, Option, Some, None, length, length-append, replicate, set, refl, ap, sym, ◌∙◌, subst, arith}
 use Rattle.std.specs.Prelude.{Contains, slice_get}
 use Rattle.std.proofs.lemmas.Bool.{cases_eq, cases_lt}
 use Rattle.std.proofs.lemmas.List.{get_or-replicate, length-replicate, length-set}
 use Rattle.std.proofs.lemmas.Option.{get_or_from_slice_get, same_Some, slice_get_within}
-use Rattle.region_label.specs.Inner.Lists.{AreFilled, AreSized, Fills, IsCleared, IsFilling, IsFree, IsLinked, IsListed, IsNumbered, IsOf}
+use Rattle.cell_base.specs.Walk.{IsWalk}
+use Rattle.region_label.specs.Inner.Lists.{AreFilled, AreSized, Fills, HasNone, IsCleared, IsFilling, IsFree, IsLinked, IsListed, IsNumbered, IsOf}
 use Rattle.region_label.specs.declared.lists.RunLists.{RunLists}
-use Rattle.region_label.proofs.ListLemmas.{contains_from_at, slice_get-set_other, slice_get-set_same}
+use Rattle.region_label.proofs.ListLemmas.{contains_from_at, slice_get-push_last, slice_get-push_old, slice_get-set_other, slice_get-set_same}
 use Rattle.region_label.proofs.ListsLemmas.{last_in}
 
-free_and_numbered : (components : List (Option ℕ)) (i k : ℕ) → IsFree components i → IsOf components i k → ⊥
+pub free_and_numbered : (components : List (Option ℕ)) (i k : ℕ) → IsFree components i → IsOf components i k → ⊥
 free_and_numbered components i k free is =
     let both : Some (Some k) ≡ Some None = sym is ∙ free in
     cc
 
-same_component : (components : List (Option ℕ)) (i k m : ℕ) → IsOf components i k → IsOf components i m → k ≡ m
+pub same_component : (components : List (Option ℕ)) (i k m : ℕ) → IsOf components i k → IsOf components i m → k ≡ m
 same_component components i k m is_k is_m = same_Some k m (same_Some (Some k) (Some m) (sym is_k ∙ is_m))
 
 none_replicated : (n i : ℕ) (o : Option ℕ) → slice_get (replicate n None) i ≡ Some o → o ≡ None
@@ -65,7 +66,7 @@ filled_skip touch runs lists at filled numbered = record {
   free = filled.free;
 }
 
-linked_same : (old new list : List ℕ) (start last : ℕ) → ((i : ℕ) → Contains list i → slice_get new i ≡ slice_get old i) → IsLinked old list start last → IsLinked new list start last
+pub linked_same : (old new list : List ℕ) (start last : ℕ) → ((i : ℕ) → Contains list i → slice_get new i ≡ slice_get old i) → IsLinked old list start last → IsLinked new list start last
 linked_same old new list start last same linked = record {
   first = linked.first;
   once = linked.once;
@@ -209,3 +210,62 @@ filled_more touch runs old begun new end at symmetric filled within same_compone
         | inr same ↦ same.1 ∙ filled.free i (sym same.0 ∙ free)
       ];
     }
+
+none_there : (components : List (Option ℕ)) → length components ≡ 0 → components ≡ replicate (length components) None
+none_there [] none = refl
+none_there (o ∷ os) none = absurd (omega (arith, none))
+
+-- a fill that finds no component leaves no run unclear: there is none
+pub filled_clear : (touch : ℕ → ℕ → Type 0) (runs : ℕ) (lists : RunLists) → AreFilled touch runs lists runs → lists.count ≡ 0 → HasNone lists
+filled_clear touch runs lists filled none = elim (cases_lt 0 runs) [
+  | inl some ↦
+      let had = filled.done 0 some in
+      absurd (omega (arith, filled.known 0 had.0 had.1, none))
+  | inr past ↦ record {
+    components = none_there lists.components.items (omega (arith, past, filled.sized.components));
+    links = λ i less. absurd (omega (arith, less, past, filled.sized.links));
+  }
+]
+
+walk_same : (touch other : ℕ → ℕ → Type 0) → ((i j : ℕ) → touch i j → other i j) → (i j : ℕ) (walk : List ℕ) → IsWalk touch i walk j → IsWalk other i walk j
+walk_same touch other to i j [] walked = walked
+walk_same touch other to i j (k ∷ ks) walked = (to i k walked.0, walk_same touch other to k j ks walked.1)
+
+listed_same : (touch other : ℕ → ℕ → Type 0) → ((i j : ℕ) → touch i j → other i j) → (components : List (Option ℕ)) (links firsts : List ℕ) (k : ℕ) (list : List ℕ) → IsListed touch components links firsts k list → IsListed other components links firsts k list
+listed_same touch other to components links firsts k list listed = record {
+  start = listed.start;
+  last = listed.last;
+  start_at = listed.start_at;
+  linked = listed.linked;
+  numbered = listed.numbered;
+  all = listed.all;
+  reached = λ i member.
+      let had = listed.reached i member in
+      (had.0, walk_same touch other to listed.start i had.0 had.1);
+  least = listed.least;
+}
+
+-- what is filled is so where the same touch
+pub filled_same : (touch other : ℕ → ℕ → Type 0) (runs : ℕ) (lists : RunLists) (at : ℕ) → ((i j : ℕ) → touch i j → other i j) → ((i j : ℕ) → other i j → touch i j) → AreFilled touch runs lists at → AreFilled other runs lists at
+filled_same touch other runs lists at to from filled = record {
+  sized = filled.sized;
+  few = filled.few;
+  listed = λ k less.
+      let had = filled.listed k less in
+      (had.0, listed_same touch other to lists.components.items lists.links.items lists.firsts.items k had.0 had.1);
+  order = filled.order;
+  before = filled.before;
+  done = filled.done;
+  known = filled.known;
+  closed = λ i j k is touches. filled.closed i j k is (from i j touches);
+  free = filled.free;
+}
+
+-- links of runs to themselves, and one more
+pub linked_more : (links : List ℕ) (run : ℕ) → length links ≡ run → ((i : ℕ) → i < length links → slice_get links i ≡ Some i) → (i : ℕ) → i < length (links ++ run ∷ []) → slice_get (links ++ run ∷ []) i ≡ Some i
+linked_more links run is each i less = elim (cases_lt i (length links)) [
+  | inl early ↦ slice_get-push_old links run i early ∙ each i early
+  | inr late ↦
+      let last : i ≡ length links = omega (arith, less, late, length-append links (run ∷ [])) in
+      ap (slice_get (links ++ run ∷ [])) last ∙ slice_get-push_last links run ∙ ap (λ (n : ℕ). Some n) (sym is ∙ sym last)
+]

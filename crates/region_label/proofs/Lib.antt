@@ -1,11 +1,14 @@
 pub mod ListLemmas
 pub mod RowsLemmas
+pub mod BlockLemmas
 pub mod NoteLemmas
 pub mod SearchLemmas
 pub mod ListsLemmas
 pub mod ContactLemmas
 pub mod FillLemmas
 pub mod FilledLemmas
+pub mod BesideLemmas
+pub mod SpreadLemmas
 pub mod PaintLemmas
 pub mod JoinLemmas
 pub mod WholeLemmas

@@ -10,6 +10,7 @@ use Rattle.region_label.specs.Inner.Table.{IsOnList, IsTable, IsWalkOf, followin
 use Rattle.region_label.specs.declared.rows.RowRuns.{RowRuns}
 use Rattle.region_label.specs.declared.lists.RunLists.{RunLists}
 use Rattle.region_label.proofs.FillLemmas.{distinct_below}
+use Rattle.region_label.proofs.FilledLemmas.{filled_clear}
 use Rattle.region_label.proofs.ListLemmas.{contains_from_at}
 use Rattle.region_label.proofs.WholeLemmas.{drop_at, linked_drop}
 
@@ -95,8 +96,10 @@ walk_within runs links at walk =
 pub table_kept : (touch : ℕ → ℕ → Type 0) (rows : RowRuns) (old new : RunLists) → IsTable rows old → AreFilled touch (length rows.runs.items) new (length rows.runs.items) → IsTable rows new
 table_kept touch rows old new kept filled = record {
   order = kept.order;
+  blocks = kept.blocks;
   sized = filled.sized;
   few = omega (arith, filled.few, filled.sized.firsts);
+  clear = λ none. filled_clear touch (length rows.runs.items) new filled none;
   listed = λ k start less at.
       let had = filled.listed k less in
       let same : had.1.start ≡ start = same_Some had.1.start start (sym had.1.start_at ∙ at) in

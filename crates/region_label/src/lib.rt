@@ -1,6 +1,7 @@
 //! The connected components of a grid's equal valid cells.
 #![tactic(auto)]
 
+mod blocks;
 mod labelling;
 mod laws;
 mod lists;

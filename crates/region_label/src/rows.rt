@@ -1,12 +1,14 @@
 // Finds the runs of a grid, row by row.
-ghost use Rattle.std.specs.Prelude.{◌≡◌, ◌<◌, ◌≤◌, ◌+◌, IfOk, OnOk, length, slice_index};
+ghost use Rattle.std.specs.Prelude.{◌≡◌, ◌<◌, ◌≤◌, ◌+◌, IfOk, OnOk, length, slice_index, true};
+ghost use Rattle.region_label.specs.Inner.Blocks.{AreApart, AreBlocksOf, GoesOn, HasPlaced};
 ghost use Rattle.region_label.specs.Inner.Rows.{AreFound, AreStarts, EndsAt, IsFirstPast, IsNonePast, IsValidAt, noted_units};
 ghost use Rattle.region_label.specs.Inner.Table.{AreInOrder, AreRowsOf, HasSize, KeepsRows};
 
+use crate::blocks::{Block, Blocks};
 use cell_base::{Cell, Grid, Mask, Run};
 use std::alloc::{AllocError, Global};
 
-// The runs by row and column, a note on each, and where each row's runs begin; the last start is the end.
+// The runs by row and column, a note on each, where each row's runs begin (the last start is the end), and the blocks.
 #[derive(Drop)]
 pub(crate) struct RowRuns {
     pub(crate) ncols: u32,
@@ -14,6 +16,7 @@ pub(crate) struct RowRuns {
     pub(crate) runs: Vec<Run>,
     pub(crate) notes: Vec<RunNote>,
     pub(crate) starts: Vec<u32>,
+    pub(crate) blocks: Blocks,
 }
 
 // What a fill reads of a run beside its place: the units of its cells, and where the runs beside it may begin in the row
@@ -113,13 +116,22 @@ impl RowRuns {
             runs: Vec::new(alloc),
             notes: Vec::new(alloc),
             starts: Vec::new(alloc),
+            blocks: Blocks {
+                of: Vec::new(alloc),
+                ends: Vec::new(alloc),
+            },
         };
         for row in 0..cells.nrows() {
             rows.starts.push(rows.runs.len() as u32)?;
             rows.push_row(cells, valid, row)?;
         }
         rows.starts.push(rows.runs.len() as u32)?;
-        rows.find_beside();
+        let on = rows.find_beside();
+        // with fewer that go on a fill would read more for blocks than it saves
+        if on * 2 < rows.runs.len() {
+            return Ok(rows);
+        }
+        rows.blocks = rows.find_blocks(alloc)?;
         Ok(rows)
     }
 
@@ -136,6 +148,34 @@ impl RowRuns {
         at
     }
 
+    // Whether a run lies right below another, with its ends and its units.
+    fn goes_on(&self, above: usize, run: usize) -> bool
+        requires ordered { AreInOrder self.now }
+        requires run { run < length self.now.runs.items }
+        ensures { result ≡ true
+            → (above < run) × GoesOn self.now.runs.items (noted_units self.now.notes.items) above run }
+    {
+        if above >= run {
+            return false;
+        }
+        if self.notes[above].units != self.notes[run].units {
+            return false;
+        }
+        let first = self.runs[above];
+        let second = self.runs[run];
+        second.row == first.row + 1 && second.from == first.from && second.to == first.to
+    }
+
+    // The number of runs that go on, with one more if this run goes on from the one above.
+    fn count_on(&self, above: usize, run: usize, on: usize) -> usize
+        requires ordered { AreInOrder self.now }
+        requires run { run < length self.now.runs.items }
+        requires few { on ≤ run }
+        ensures { result ≤ run + 1 }
+    {
+        if self.goes_on(above, run) { on + 1 } else { on }
+    }
+
     // Writes the guesses of a run.
     fn guess(&mut self, run: usize, above: u32, below: u32)
         requires { run < length self.old.notes.items }
@@ -148,11 +188,13 @@ impl RowRuns {
     }
 
     // Guesses, for each run of a row, where in the rows beside it the first run lies that ends past its start. Beyond
-    // the first and the last row there is nothing to find.
-    fn guess_row(&mut self, row: u32)
+    // the first and the last row there is nothing to find. Answers how many runs go on so far.
+    fn guess_row(&mut self, row: u32, on: usize) -> usize
         requires ordered { AreInOrder self.old }
         requires row { row < self.old.nrows }
-        ensures { KeepsRows self.old self.new }
+        requires few { on ≤ slice_index self.old.starts.items row }
+        ensures keeps { KeepsRows self.old self.new }
+        ensures few { result ≤ slice_index self.new.starts.items (row + 1) }
     {
         let row_above = row.saturating_sub(1) as usize;
         let row_below = (row + 1).min(self.nrows - 1) as usize;
@@ -160,22 +202,94 @@ impl RowRuns {
         let above_end = self.starts[row_above + 1] as usize;
         let mut below = self.starts[row_below] as usize;
         let below_end = self.starts[row_below + 1] as usize;
+        let mut on = on;
         'runs: for run in self.starts[row as usize]..self.starts[row as usize + 1] {
             let col = self.runs[run as usize].from;
             above = self.ends_past(col, above, above_end);
             below = self.ends_past(col, below, below_end);
+            on = self.count_on(above, run as usize, on);
             self.guess(run as usize, above as u32, below as u32);
         }
+        on
     }
 
-    // Walks each row side by side with the rows beside it.
-    fn find_beside(&mut self)
+    // Walks each row side by side with the rows beside it; answers how many runs go on from the run above.
+    fn find_beside(&mut self) -> usize
         requires ordered { AreInOrder self.old }
-        ensures { KeepsRows self.old self.new }
+        ensures keeps { KeepsRows self.old self.new }
+        ensures few { result ≤ length self.new.runs.items }
     {
+        let mut on = 0;
         for row in 0..self.nrows {
-            self.guess_row(row);
+            on = self.guess_row(row, on);
         }
+        on
+    }
+
+    // Puts a run into the block of the run above it.
+    fn go_on(&self, blocks: &mut Blocks, above: usize, run: usize) -> Result<(), AllocError>
+        requires ordered { AreInOrder self.now }
+        requires apart { AreApart self.now.runs.items (noted_units self.now.notes.items) }
+        requires run { run < length self.now.runs.items }
+        requires placed { HasPlaced self.now blocks.old run }
+        requires before { above < run }
+        requires on { GoesOn self.now.runs.items (noted_units self.now.notes.items) above run }
+        ensures { OnOk result (HasPlaced self.now blocks.new (run + 1)) }
+    {
+        let b = blocks.of[above];
+        blocks.of.push(b)?;
+        let mut block = blocks.ends[b as usize];
+        block.last = run as u32;
+        blocks.ends[b as usize] = block;
+        Ok(())
+    }
+
+    // Puts a run into a block of its own.
+    fn begin(&self, blocks: &mut Blocks, run: usize) -> Result<(), AllocError>
+        requires ordered { AreInOrder self.now }
+        requires run { run < length self.now.runs.items }
+        requires placed { HasPlaced self.now blocks.old run }
+        ensures { OnOk result (HasPlaced self.now blocks.new (run + 1)) }
+    {
+        blocks.of.push(blocks.ends.len() as u32)?;
+        blocks.ends.push(Block {
+            first: run as u32,
+            last: run as u32,
+        })?;
+        Ok(())
+    }
+
+    // Puts a run into a block.
+    fn place(&self, blocks: &mut Blocks, run: usize) -> Result<(), AllocError>
+        requires ordered { AreInOrder self.now }
+        requires apart { AreApart self.now.runs.items (noted_units self.now.notes.items) }
+        requires run { run < length self.now.runs.items }
+        requires placed { HasPlaced self.now blocks.old run }
+        ensures { OnOk result (HasPlaced self.now blocks.new (run + 1)) }
+    {
+        let above = self.notes[run].above as usize;
+        if self.goes_on(above, run) {
+            self.go_on(blocks, above, run)?;
+            return Ok(());
+        }
+        self.begin(blocks, run)?;
+        Ok(())
+    }
+
+    // The blocks of all runs, which are found in order.
+    fn find_blocks(&self, alloc: Global) -> Result<Blocks, AllocError>
+        requires ordered { AreInOrder self.now }
+        requires apart { AreApart self.now.runs.items (noted_units self.now.notes.items) }
+        ensures { IfOk result (AreBlocksOf self.now) }
+    {
+        let mut blocks = Blocks {
+            of: Vec::with_capacity(alloc, self.runs.len())?,
+            ends: Vec::new(alloc),
+        };
+        for run in 0..self.runs.len() {
+            self.place(&mut blocks, run)?;
+        }
+        Ok(blocks)
     }
 
     // The first run of a row that ends past a column, or else the end of the row's runs.

@@ -241,3 +241,28 @@ fn short_rows(rt: HostRuntime) -> Result<(), Fail> {
     );
     Ok(())
 }
+
+#[test]
+fn blocks_of_runs_have_their_firsts_and_sizes(rt: HostRuntime) -> Result<(), Fail> {
+    // an arch over a stripe, and a stripe beside it
+    let arch = [1, 1, 1, 2, 1, 3, 1, 2, 1, 3, 1, 2];
+    let numbers = [0, 0, 0, 1, 0, 2, 0, 1, 0, 2, 0, 1];
+    assert!(rt; finds::<false>(rt.alloc(), (4, 3), &arch, &numbers, &[0, 3, 11], &[7, 3, 2])?);
+    assert!(rt; finds::<true>(rt.alloc(), (4, 3), &arch, &numbers, &[0, 3, 11], &[7, 3, 2])?);
+    // two stripes that change sides
+    let sides = [1, 2, 1, 2, 2, 1, 2, 1];
+    let four = [0, 1, 0, 1, 2, 3, 2, 3];
+    assert!(rt;
+        finds::<false>(
+            rt.alloc(),
+            (2, 4),
+            &sides,
+            &four,
+            &[0, 1, 20, 21],
+            &[2, 2, 2, 2]
+        )?
+    );
+    let eight = [0, 1, 0, 1, 1, 0, 1, 0];
+    assert!(rt; finds::<true>(rt.alloc(), (2, 4), &sides, &eight, &[0, 1], &[4, 4])?);
+    Ok(())
+}

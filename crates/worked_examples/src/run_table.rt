@@ -99,3 +99,109 @@ fn regions_lend_their_runs(rt: HostRuntime) -> Result<(), Fail> {
     assert!(rt; has_runs(rt.alloc(), regions.table(), 1, &[(0, 1, 2), (1, 0, 1)])?);
     Ok(())
 }
+
+/// Whether the runs are in these components, in order.
+fn are_numbered(table: &RunTable, want: &[u32]) -> bool {
+    let found = table.components();
+    found.len() == want.len() && found.iter().zip(want.iter()).all(|(k, w)| *k == Some(*w))
+}
+
+#[test]
+fn stripes_with_an_arch_fill_by_blocks(rt: HostRuntime) -> Result<(), Fail> {
+    // 1 1 1 2
+    // 1 3 1 2
+    // 1 3 1 2
+    let mut table = built(rt.alloc(), 4, 3, &[1, 1, 1, 2, 1, 3, 1, 2, 1, 3, 1, 2])?;
+    assert!(rt; table.runs().len() == 10);
+    table.fill::<false>();
+    assert!(rt; table.count() == 3);
+    assert!(rt; are_numbered(&table, &[0, 1, 0, 2, 0, 1, 0, 2, 0, 1]));
+    let arch = [(0, 0, 3), (1, 0, 1), (1, 2, 3), (2, 0, 1), (2, 2, 3)];
+    assert!(rt; has_runs(rt.alloc(), &table, 0, &arch)?);
+    assert!(rt; has_runs(rt.alloc(), &table, 1, &[(0, 3, 4), (1, 3, 4), (2, 3, 4)])?);
+    assert!(rt; has_runs(rt.alloc(), &table, 2, &[(1, 1, 2), (2, 1, 2)])?);
+    table.fill::<true>();
+    assert!(rt; table.count() == 3);
+    assert!(rt; are_numbered(&table, &[0, 1, 0, 2, 0, 1, 0, 2, 0, 1]));
+    assert!(rt; has_runs(rt.alloc(), &table, 0, &arch)?);
+    Ok(())
+}
+
+#[test]
+fn blocks_of_a_cup_are_joined_from_below(rt: HostRuntime) -> Result<(), Fail> {
+    // 1 2 1 3
+    // 1 2 1 3
+    // 1 2 1 3
+    // 1 1 1 2
+    // 3 2 3 2
+    let cells = [
+        1, 2, 1, 3, 1, 2, 1, 3, 1, 2, 1, 3, 1, 1, 1, 2, 3, 2, 3, 2,
+    ];
+    let mut table = built(rt.alloc(), 4, 5, &cells)?;
+    assert!(rt; table.runs().len() == 18);
+    table.fill::<false>();
+    assert!(rt; table.count() == 7);
+    let numbers = [0, 1, 0, 2, 0, 1, 0, 2, 0, 1, 0, 2, 0, 3, 4, 5, 6, 3];
+    assert!(rt; are_numbered(&table, &numbers));
+    let cup = [
+        (0, 0, 1),
+        (0, 2, 3),
+        (1, 0, 1),
+        (1, 2, 3),
+        (2, 0, 1),
+        (2, 2, 3),
+        (3, 0, 3),
+    ];
+    assert!(rt; has_runs(rt.alloc(), &table, 0, &cup)?);
+    assert!(rt; has_runs(rt.alloc(), &table, 3, &[(3, 3, 4), (4, 3, 4)])?);
+    table.fill::<true>();
+    assert!(rt; are_numbered(&table, &numbers));
+    assert!(rt; has_runs(rt.alloc(), &table, 0, &cup)?);
+    Ok(())
+}
+
+#[test]
+fn a_cup_with_few_blocks_fills_run_by_run(rt: HostRuntime) -> Result<(), Fail> {
+    // 1 2 1 3
+    // 1 2 1 3
+    // 1 1 1 2
+    // 3 2 3 2
+    let cells = [1, 2, 1, 3, 1, 2, 1, 3, 1, 1, 1, 2, 3, 2, 3, 2];
+    let mut table = built(rt.alloc(), 4, 4, &cells)?;
+    assert!(rt; table.runs().len() == 14);
+    table.fill::<false>();
+    assert!(rt; table.count() == 7);
+    assert!(rt; are_numbered(&table, &[0, 1, 0, 2, 0, 1, 0, 2, 0, 3, 4, 5, 6, 3]));
+    let cup = [(0, 0, 1), (0, 2, 3), (1, 0, 1), (1, 2, 3), (2, 0, 3)];
+    assert!(rt; has_runs(rt.alloc(), &table, 0, &cup)?);
+    assert!(rt; has_runs(rt.alloc(), &table, 3, &[(2, 3, 4), (3, 3, 4)])?);
+    table.fill::<true>();
+    assert!(rt; are_numbered(&table, &[0, 1, 0, 2, 0, 1, 0, 2, 0, 3, 4, 5, 6, 3]));
+    assert!(rt; has_runs(rt.alloc(), &table, 0, &cup)?);
+    Ok(())
+}
+
+#[test]
+fn corners_join_the_ends_of_blocks(rt: HostRuntime) -> Result<(), Fail> {
+    // 1 2
+    // 1 2
+    // 2 1
+    // 2 1
+    let mut table = built(rt.alloc(), 2, 4, &[1, 2, 1, 2, 2, 1, 2, 1])?;
+    table.fill::<true>();
+    assert!(rt; table.count() == 2);
+    assert!(rt; are_numbered(&table, &[0, 1, 0, 1, 1, 0, 1, 0]));
+    assert!(rt;
+        has_runs(
+            rt.alloc(),
+            &table,
+            1,
+            &[(0, 1, 2), (1, 1, 2), (2, 0, 1), (3, 0, 1)]
+        )?
+    );
+    table.fill::<false>();
+    assert!(rt; table.count() == 4);
+    assert!(rt; are_numbered(&table, &[0, 1, 0, 1, 2, 3, 2, 3]));
+    assert!(rt; has_runs(rt.alloc(), &table, 2, &[(2, 0, 1), (3, 0, 1)])?);
+    Ok(())
+}

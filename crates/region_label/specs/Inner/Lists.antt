@@ -83,12 +83,6 @@ contacts connectivity rows = IsContact connectivity rows.runs.items (noted_units
 abbrev pub TouchAt : Bool → RowRuns → ℕ → ℕ → Type 0
 TouchAt connectivity rows i j = (a b : Run) → slice_get rows.runs.items i ≡ Some a → slice_get rows.runs.items j ≡ Some b → Touches connectivity a b
 
--- the contacts of a run in the rows of this kind are in components
-abbrev pub AreJoined : Bool → RowRuns → (ℕ → ℕ → Type 0) → ℕ → RunLists → Type 0
-AreJoined connectivity rows kind at lists = (j : ℕ) (a b : Run) → slice_get rows.runs.items at ≡ Some a
-    → slice_get rows.runs.items j ≡ Some b → kind a.row b.row → contacts connectivity rows at j
-    → IsNumbered lists.components.items j
-
 -- a run that is in no component is linked to itself
 abbrev pub IsLinkedToItself : RunLists → Type 0
 IsLinkedToItself lists = (i : ℕ) → IsFree lists.components.items i → slice_get lists.links.items i ≡ Some i
@@ -132,6 +126,11 @@ pub record AreFilled (touch : ℕ → ℕ → Type 0) (runs : ℕ) (lists : RunL
   pub free : IsLinkedToItself lists
 
 -- no run is in a component, and each is linked to itself
+pub record HasNone (lists : RunLists) : Type 0 where
+  pub components : lists.components.items ≡ replicate (length lists.components.items) None
+  pub links : (i : ℕ) → i < length lists.links.items → slice_get lists.links.items i ≡ Some i
+
+-- the lists are so now
 pub record IsCleared (old new : RunLists) : Type 0 where
   pub components : new.components.items ≡ replicate (length old.components.items) None
   pub sized : length new.links.items ≡ length old.links.items

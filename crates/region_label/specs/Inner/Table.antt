@@ -2,7 +2,8 @@
 use Rattle.std.specs.Prelude.{◌≡◌, ℕ, ◌<◌, ◌≤◌, zero, suc, ℤ, ◌==◌, Bool, List, [], ◌∷◌, Option, Some, None, Contains, map, length, slice_get, slice_index, take, unwrap_or, if◌then◌else◌}
 use Rattle.cell_base.specs.Raster.{IsRaster, Raster}
 use Rattle.region_label.specs.Inner.Rows.{AreFound, AreInRows, noted_units}
-use Rattle.region_label.specs.Inner.Lists.{AreSized, IsLinked}
+use Rattle.region_label.specs.Inner.Lists.{AreSized, HasNone, IsLinked}
+use Rattle.region_label.specs.Inner.Blocks.{HasBlocks}
 use Rattle.region_label.specs.Run.{Run}
 use Rattle.region_label.specs.RunTable.{IsTableOfRegions, TableOfRuns, regions_of}
 use Rattle.region_label.specs.declared.rows.RowRuns.{RowRuns}
@@ -12,10 +13,11 @@ use Rattle.region_label.specs.declared.lists.RunLists.{RunLists}
 abbrev pub AreInOrder : RowRuns → Type 0
 AreInOrder rows = AreInRows rows.ncols rows.nrows rows.runs.items (noted_units rows.notes.items) rows.starts.items
 
--- the size stays
+-- the size stays, and the blocks
 pub record HasSize (old new : RowRuns) : Type 0 where
   pub ncols : new.ncols ≡ old.ncols
   pub nrows : new.nrows ≡ old.nrows
+  pub blocks : new.blocks ≡ old.blocks
 
 -- all but the guesses stays
 pub record KeepsRows (old new : RowRuns) : Type 0 where
@@ -24,6 +26,7 @@ pub record KeepsRows (old new : RowRuns) : Type 0 where
   pub runs : new.runs ≡ old.runs
   pub units : noted_units new.notes.items ≡ noted_units old.notes.items
   pub starts : new.starts ≡ old.starts
+  pub blocks : new.blocks ≡ old.blocks
 
 -- the runs of these cells
 pub record AreRowsOf {T : Type 0} (units_of : T → ℤ) (cells : Raster T) (valid : Raster Bool) (rows : RowRuns) : Type 0 where
@@ -31,6 +34,7 @@ pub record AreRowsOf {T : Type 0} (units_of : T → ℤ) (cells : Raster T) (val
   pub nrows : rows.nrows ≡ cells.nrows
   pub in_order : AreInOrder rows
   pub found : AreFound units_of cells valid rows.runs.items (noted_units rows.notes.items) (cells.nrows, 0)
+  pub blocks : HasBlocks rows
 
 -- at most so many members of a linked list, from one on to the one that is linked to itself
 abbrev pub linked_from : List ℕ → ℕ → ℕ → List ℕ
@@ -65,11 +69,13 @@ pub record IsOnList (runs : ℕ) (links : List ℕ) (at : ℕ) : Type 0 where
   pub at_index : slice_get list index ≡ Some at
   pub below : (i : ℕ) → Contains list i → i < runs
 
--- the runs are in order, and each component has a linked list
+-- the runs are in order, and each component has a linked list; with no components the lists are as a fill begins
 pub record IsTable (rows : RowRuns) (lists : RunLists) : Type 0 where
   pub order : AreInOrder rows
+  pub blocks : HasBlocks rows
   pub sized : AreSized (length rows.runs.items) lists
   pub few : lists.count ≤ length lists.firsts.items
+  pub clear : lists.count ≡ 0 → HasNone lists
   pub listed : (k start : ℕ) → k < lists.count → slice_get lists.firsts.items k ≡ Some start
       → IsOnList (length rows.runs.items) lists.links.items start
 

@@ -6,6 +6,7 @@ use Rattle.std.proofs.lemmas.Option.{same_Some, slice_get-get_or}
 use denote.Param.{value_of, number}
 use Rattle.region_label.specs.Run.{Run}
 use Rattle.region_label.specs.Inner.Lists.{IsNumbered, Touches, contacts, corner}
+use Rattle.region_label.specs.Inner.Blocks.{block_at}
 use Rattle.region_label.specs.Inner.Rows.{noted_units}
 use Rattle.region_label.proofs.ContactLemmas.{corner_small, far_after, far_before, touch_of}
 use Rattle.region_label.proofs.SearchLemmas.{begins_no_earlier, between_row, row_between}
@@ -17,7 +18,7 @@ loop-i-init g c =
     let rows = c.args.rows.now in
     let at_run : slice_get rows.runs.items c.args.at ≡ Some c.index-run.result.now = slice_get-get_or rows.runs.items c.args.at c.index-run.result.now c.requires.at ∙ ap (λ (r : Run). Some r) (sym c.index-run.ensures) in
     record {
-      joins = joins_none _ c.args.at c.args.number c.args.self.now c.args.last;
+      joins = joins_none _ _ c.args.number c.args.self.now c.args.last;
       within = c.requires.last;
       joined = λ j b at_b row less contact.
           let between = between_row rows.ncols rows.nrows rows.runs.items (noted_units rows.notes.items) rows.starts.items c.args.row j b c.requires.ordered c.requires.row at_b row in
@@ -63,14 +64,23 @@ join-last-requires-clause-touch g c =
 
 pub loop-i-preserved : goal.loop-i-preserved
 loop-i-preserved g c =
+    let rows = c.args.rows.now in
     let step = c.join-last.ensures in
     record {
-      joins = joins_then _ c.args.at c.args.number _ _ _ _ _ _ c.loop-i.invariant.joins step.joins;
+      joins = joins_then _ _ c.args.number _ _ _ _ _ _ c.loop-i.invariant.joins step.joins;
       within = omega (arith, c.requires.sized.links, c.loop-i.invariant.joins.links, step.joins.within (omega (arith, c.requires.sized.links, c.loop-i.invariant.joins.links, c.loop-i.invariant.within)));
       joined = λ j b at_b row less contact. elim (cases_eq j c.loop-i.i) [
-        | inl same ↦ subst (λ (i : ℕ). IsNumbered c.join-last.new.self.components.items i) (sym same) (step.joined (subst (λ (i : ℕ). contacts (not (nat_eq (value_of (number g.row.EIGHT)) 0)) c.args.rows.now c.args.at i) same contact))
+        | inl same ↦ subst (λ (i : ℕ). IsNumbered c.join-last.new.self.components.items (block_at rows i)) (sym same) (step.joined (subst (λ (i : ℕ). contacts (not (nat_eq (value_of (number g.row.EIGHT)) 0)) c.args.rows.now c.args.at i) same contact))
         | inr other ↦
             let had = c.loop-i.invariant.joined j b at_b row (omega arith) contact in
-            (had.0, step.joins.kept j had.0 had.1)
+            (had.0, step.joins.kept (block_at rows j) had.0 had.1)
       ];
     }
+
+pub returns-clause-joined : goal.returns-clause-joined
+returns-clause-joined g c =
+    let rows = c.args.rows.now in
+    let end : c.index.result.now ≡ slice_index rows.starts.items (c.args.row + 1) = grind (arith, common_steps) in
+    λ j a b at_a at_b row contact.
+    let between = between_row rows.ncols rows.nrows rows.runs.items (noted_units rows.notes.items) rows.starts.items c.args.row j b c.requires.ordered c.requires.row at_b row in
+    c.loop-i.invariant.joined j b at_b row (omega (arith, between.1, end, c.loop-i-test.false)) contact

@@ -10,4 +10,5 @@ returns c = record {
   runs = refl;
   units = map-set_same (λ (note : RunNote). note.units) c.args.self.now.notes.items c.args.run _ c.index-note.result.now (ap (λ (note : RunNote). note.units) c.index-note.ensures);
   starts = refl;
+  blocks = refl;
 }

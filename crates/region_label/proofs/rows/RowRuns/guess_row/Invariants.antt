@@ -9,4 +9,5 @@ invariant-runs l = record {
   below : l.below ≤ l.below_end;
   below_end : l.below_end ≤ length l.self.runs.items;
   keeps : KeepsRows l.fn.self l.self;
+  few : l.on ≤ l.run;
 }
