@@ -134,9 +134,7 @@ fn blocks_of_a_cup_are_joined_from_below(rt: HostRuntime) -> Result<(), Fail> {
     // 1 2 1 3
     // 1 1 1 2
     // 3 2 3 2
-    let cells = [
-        1, 2, 1, 3, 1, 2, 1, 3, 1, 2, 1, 3, 1, 1, 1, 2, 3, 2, 3, 2,
-    ];
+    let cells = [1, 2, 1, 3, 1, 2, 1, 3, 1, 2, 1, 3, 1, 1, 1, 2, 3, 2, 3, 2];
     let mut table = built(rt.alloc(), 4, 5, &cells)?;
     assert!(rt; table.runs().len() == 18);
     table.fill::<false>();
