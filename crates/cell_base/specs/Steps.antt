@@ -31,6 +31,10 @@ IsStep true a b = SharesSide a b ⊎ SharesCorner a b
 abbrev pub step_count : Bool → ℕ
 step_count connectivity = if connectivity then 8 else 4
 
+-- how many columns a step to another row may lead sideways
+abbrev pub step_reach : Bool → ℕ
+step_reach connectivity = if connectivity then 1 else 0
+
 -- how a number changes
 pub data Change : Type 0 where
   less : Change

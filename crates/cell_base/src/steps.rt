@@ -1,6 +1,6 @@
 ghost use Rattle.std.specs.Prelude.{◌≡◌, ◌<◌, ◌≤◌, IfSome, IfNone};
 ghost use Rattle.cell_base.specs.Raster.{Place, most_cells};
-ghost use Rattle.cell_base.specs.Steps.{IsNeighbour, step_count};
+ghost use Rattle.cell_base.specs.Steps.{IsNeighbour, step_count, step_reach};
 
 /// The steps from a cell to its neighbours: the four that share a side with it, and with EIGHT
 /// the four that share a corner alone besides.
@@ -12,6 +12,13 @@ impl<const EIGHT: bool> Steps<EIGHT> {
         ensures { result ≡ step_count EIGHT }
     {
         if EIGHT { 8 } else { 4 }
+    }
+
+    /// How many columns a step to another row may lead sideways: one with EIGHT, and else none.
+    pub fn reach() -> u32
+        ensures { result ≡ step_reach EIGHT }
+    {
+        if EIGHT { 1 } else { 0 }
     }
 
     /// The cell that a step leads to, in the order up, left, right, down, up-left, up-right,

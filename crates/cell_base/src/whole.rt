@@ -1,5 +1,5 @@
 // The four whole types of cells.
-ghost use Rattle.std.specs.Prelude.{◌≡◌, ◌++◌, ◌≤ℤ◌, OnErr, OnOk, Ok, neg_ℤ, pos, refl, unsigned_abs};
+ghost use Rattle.std.specs.Prelude.{◌≡◌, ◌++◌, ◌<◌, ◌≤ℤ◌, OnErr, OnOk, Ok, neg_ℤ, pos, refl, unsigned_abs};
 ghost use Rattle.fixed_coord.specs.Shortest.{shortest};
 ghost use Rattle.cell_base.specs.Clamped.{clamped};
 ghost use Rattle.cell_base.specs.WholeCells.{between, whole_between};
@@ -24,11 +24,30 @@ fn read_whole(text: &[u8]) -> Result<i64, CellFault>
     num_traits::cast(n).ok_or(CellFault::OutOfRange)
 }
 
-// Appends the decimal text of a whole number.
+// Appends the decimal text of a number below 100.
+#[inline(always)]
+fn write_short(n: u8, out: &mut Vec<u8>) -> Result<(), AllocError>
+    requires { n < 100 }
+    ensures ok { OnOk result (out.new.items ≡ out.old.items ++ shortest (pos n) 0) }
+    ensures err { OnErr result (out.new.items ≡ out.old.items) }
+{
+    if n < 10 {
+        out.push(b'0' + n)?;
+        return Ok(());
+    }
+    out.extend_from_slice(&[b'0' + n / 10, b'0' + n % 10])?;
+    Ok(())
+}
+
+// Appends the decimal text of a whole number. One or two digits, the commonest cell by far, need no buffer of their own.
 fn write_whole(n: i64, out: &mut Vec<u8>) -> Result<(), AllocError>
     ensures ok { OnOk result (out.new.items ≡ out.old.items ++ shortest n 0) }
     ensures err { OnErr result (out.new.items ≡ out.old.items) }
 {
+    if n >= 0 && n < 100 {
+        write_short(n as u8, out)?;
+        return Ok(());
+    }
     let mut buffer = Buffer::new();
     out.extend_from_slice(buffer.format(n).as_bytes())?;
     Ok(())

@@ -7,14 +7,14 @@ use Rattle.contour_segments.specs.declared.segment.Segment.{Segment}
 use Rattle.geo_transform.specs.declared.frame.Frame.{Frame}
 use Rattle.wkt_text.specs.declared.geometry.Pt.{Pt}
 use Rattle.wkt_text.specs.declared.geometry.Geometry.TheVariants.{LineString}
-use Rattle.contour_chain.specs.Points.{is_same_point, line_through, point_at, points_of, without_repeats}
+use Rattle.contour_chain.specs.Points.{is_same_point, line_through, point_at, points_along, without_repeats}
 
 -- the points of these segments behind another point
 abbrev pub points_behind : Frame → Raster ℤ → ℤ → Pt → List Segment → List Pt
 points_behind frame cells level last segments = without_repeats last (map (point_at frame cells level) (map (λ (t : Segment). t.to) segments))
 
-pub first_point : (frame : Frame) (cells : Raster ℤ) (level : ℤ) (line : List Segment) (s : Segment) (ss : List Segment) (first : Pt) → line ≡ s ∷ ss → first ≡ point_at frame cells level s.from → (first ∷ []) ++ points_behind frame cells level first line ≡ points_of frame cells level line
-first_point frame cells level line s ss first is at = ap (λ (p : Pt). p ∷ points_behind frame cells level p line) at ∙ ap (λ (xs : List Segment). point_at frame cells level s.from ∷ points_behind frame cells level (point_at frame cells level s.from) xs) is ∙ ap (points_of frame cells level) (sym is)
+pub first_point : (frame : Frame) (cells : Raster ℤ) (level : ℤ) (line : List Segment) (s : Segment) (ss : List Segment) (first : Pt) → line ≡ s ∷ ss → first ≡ point_at frame cells level s.from → (first ∷ []) ++ points_behind frame cells level first line ≡ points_along frame cells level line
+first_point frame cells level line s ss first is at = ap (λ (p : Pt). p ∷ points_behind frame cells level p line) at ∙ ap (λ (xs : List Segment). point_at frame cells level s.from ∷ points_behind frame cells level (point_at frame cells level s.from) xs) is ∙ ap (points_along frame cells level) (sym is)
 
 joined : (b : Bool) (path rest : List Pt) (q : Pt) → (path ++ (if b then [] else (q ∷ []))) ++ rest ≡ path ++ (if b then rest else (q ∷ rest))
 joined true path rest q = ap (λ (xs : List Pt). xs ++ rest) (append-nil path)
@@ -35,5 +35,5 @@ more_points [] p ps is other = absurd (let long : 0 ≡ suc (length ps) = ap len
 more_points (a ∷ []) p ps is other = absurd (other refl)
 more_points (a ∷ b ∷ cs) p ps is other = refl
 
-pub some_points : (frame : Frame) (cells : Raster ℤ) (level : ℤ) (line : List Segment) (s : Segment) (ss : List Segment) → line ≡ s ∷ ss → (p : Pt) × (ps : List Pt) × (points_of frame cells level line ≡ p ∷ ps)
-some_points frame cells level line s ss is = (point_at frame cells level s.from, points_behind frame cells level (point_at frame cells level s.from) (s ∷ ss), ap (points_of frame cells level) is)
+pub some_points : (frame : Frame) (cells : Raster ℤ) (level : ℤ) (line : List Segment) (s : Segment) (ss : List Segment) → line ≡ s ∷ ss → (p : Pt) × (ps : List Pt) × (points_along frame cells level line ≡ p ∷ ps)
+some_points frame cells level line s ss is = (point_at frame cells level s.from, points_behind frame cells level (point_at frame cells level s.from) (s ∷ ss), ap (points_along frame cells level) is)

@@ -72,8 +72,8 @@ neighbours_once [] = []
 neighbours_once (p ∷ ps) = p ∷ without_repeats p ps
 
 -- the points of a line
-abbrev pub points_of : Frame → Raster ℤ → ℤ → List Segment → List Pt
-points_of frame cells level line = neighbours_once (map (point_at frame cells level) (crosses_of line))
+abbrev pub points_along : Frame → Raster ℤ → ℤ → List Segment → List Pt
+points_along frame cells level line = neighbours_once (map (point_at frame cells level) (crosses_of line))
 
 -- the line through these points; one point makes none
 abbrev pub line_through : List Pt → Option Geometry

@@ -3,7 +3,7 @@ ghost use Rattle.cell_base.specs.MicroCells.{IsMicro};
 ghost use Rattle.fixed_coord.specs.Coordinate.{farthest};
 ghost use Rattle.fixed_coord.specs.Round.{round_half_away};
 ghost use Rattle.geo_transform.specs.Frame.{IsFrame};
-ghost use Rattle.contour_chain.specs.Points.{IsContourLine, above_bar, below_bar, between as between_spots, far_end, is_same_point, line_through, part_way as way_between, point_at as point_of, points_of};
+ghost use Rattle.contour_chain.specs.Points.{IsContourLine, above_bar, below_bar, between as between_spots, far_end, is_same_point, line_through, part_way as way_between, point_at as point_of, points_along};
 ghost use Rattle.contour_chain.specs.Inner.Crossings.{AreApart, IsElevation, IsSlope, IsSpot, Straddles, spots_at};
 
 use crate::lists::Line;
@@ -172,7 +172,7 @@ pub fn print_line(
     requires ncols { cells.now.ncols ≡ frame.now.ncols }
     requires nrows { cells.now.nrows ≡ frame.now.nrows }
     requires line { IsContourLine cells.now level line.now }
-    ensures { IfOk result (λ geometry. geometry ≡ line_through (points_of frame.now cells.now level line.now)) }
+    ensures { IfOk result (λ geometry. geometry ≡ line_through (points_along frame.now cells.now level line.now)) }
 {
     let segments = line.as_slice();
     let mut path = Path::new(alloc);

@@ -51,8 +51,7 @@ fn append_size(size: u128, places: u32, out: &mut Vec<u8>) -> Result<(), AllocEr
 {
     let scale = 10u64.pow(places);
     let (whole, rest) = split_size(size, scale);
-    let mut buffer = Buffer::new();
-    out.extend_from_slice(buffer.format(whole).as_bytes())?;
+    append_whole(whole, out)?;
     if rest > 0 {
         out.push(b'.')?;
         append_decimals(rest, places, out)?;
@@ -75,6 +74,21 @@ fn split_size(size: u128, scale: u64) -> (u128, u64)
         let scale = u128::from(scale);
         (size / scale, (size % scale) as u64)
     }
+}
+
+// Appends the digits of a whole part. Nearly all fit 64 bits, and those take the narrow way.
+#[inline(always)]
+fn append_whole(whole: u128, out: &mut Vec<u8>) -> Result<(), AllocError>
+    ensures ok { OnOk result (out.new.items ≡ out.old.items ++ decimal whole) }
+    ensures err { OnErr result (out.new.items ≡ out.old.items) }
+{
+    let mut buffer = Buffer::new();
+    if whole < 1_000_000_000_000_000_000 {
+        out.extend_from_slice(buffer.format(whole as u64).as_bytes())?;
+        return Ok(());
+    }
+    out.extend_from_slice(buffer.format(whole).as_bytes())?;
+    Ok(())
 }
 
 // Appends the decimals of `rest` units of 10^-places.

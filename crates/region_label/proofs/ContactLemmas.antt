@@ -3,9 +3,9 @@ use Rattle.std.proofs.Common.{◌≡◌, ℕ, ◌+◌, ◌-◌, ◌<◌, ◌≤�
 use Rattle.std.specs.Prelude.{is_some, slice_get}
 use Rattle.std.proofs.lemmas.Bool.{false≢true}
 use Rattle.std.proofs.lemmas.Option.{same_Some, slice_get-get_or}
-use Rattle.cell_base.specs.Steps.{AreNext}
+use Rattle.cell_base.specs.Steps.{AreNext, step_reach}
 use Rattle.region_label.specs.Run.{Run}
-use Rattle.region_label.specs.Inner.Lists.{IsContact, IsFree, IsNumbered, Touches, corner}
+use Rattle.region_label.specs.Inner.Lists.{IsContact, IsFree, IsNumbered, Touches}
 
 no_run : Run
 no_run = record { row = 0; from = 0; to = 0 }
@@ -56,7 +56,7 @@ contact_back connectivity runs units i j contact = record {
   touch = (elim contact.touch.0 [ inl up ↦ inr up | inr down ↦ inl down ], contact.touch.2, contact.touch.1);
 }
 
-pub corner_small : (connectivity : Bool) → corner connectivity ≤ 1
+pub corner_small : (connectivity : Bool) → step_reach connectivity ≤ 1
 corner_small true = omega arith
 corner_small false = omega arith
 
@@ -68,18 +68,18 @@ contact_runs connectivity runs units i j a b at_a at_b contact =
 
 -- a run that ends too early, or begins too late, doesn't touch
 
-pub far_before : (connectivity : Bool) (runs : List Run) (units : List ℤ) (i j : ℕ) (a b : Run) → slice_get runs i ≡ Some a → slice_get runs j ≡ Some b → 0 < b.to → b.to ≤ a.from - corner connectivity → ¬ IsContact connectivity runs units i j
+pub far_before : (connectivity : Bool) (runs : List Run) (units : List ℤ) (i j : ℕ) (a b : Run) → slice_get runs i ≡ Some a → slice_get runs j ≡ Some b → 0 < b.to → b.to ≤ a.from - step_reach connectivity → ¬ IsContact connectivity runs units i j
 far_before connectivity runs units i j a b at_a at_b some early contact =
     let touch = contact_runs connectivity runs units i j a b at_a at_b contact in
     omega (arith, touch.1, corner_small connectivity)
 
-pub far_after : (connectivity : Bool) (runs : List Run) (units : List ℤ) (i j : ℕ) (a b : Run) → slice_get runs i ≡ Some a → slice_get runs j ≡ Some b → a.to + corner connectivity ≤ b.from → ¬ IsContact connectivity runs units i j
+pub far_after : (connectivity : Bool) (runs : List Run) (units : List ℤ) (i j : ℕ) (a b : Run) → slice_get runs i ≡ Some a → slice_get runs j ≡ Some b → a.to + step_reach connectivity ≤ b.from → ¬ IsContact connectivity runs units i j
 far_after connectivity runs units i j a b at_a at_b late contact =
     let touch = contact_runs connectivity runs units i j a b at_a at_b contact in
     omega (arith, touch.2)
 
 -- a run of a neighbouring row that ends late enough and begins early enough touches
-pub touch_of : (connectivity : Bool) (a b run : Run) (row : ℕ) → run ≡ a → AreNext a.row row → b.row ≡ row → run.from - corner connectivity < b.to → b.from < run.to + corner connectivity → Touches connectivity a b
+pub touch_of : (connectivity : Bool) (a b run : Run) (row : ℕ) → run ≡ a → AreNext a.row row → b.row ≡ row → run.from - step_reach connectivity < b.to → b.from < run.to + step_reach connectivity → Touches connectivity a b
 touch_of connectivity a b run row same next is late early =
     let from : run.from ≡ a.from = ap (λ (r : Run). r.from) same in
     let to : run.to ≡ a.to = ap (λ (r : Run). r.to) same in

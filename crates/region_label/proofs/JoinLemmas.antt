@@ -4,13 +4,13 @@ use Rattle.std.specs.Prelude.{slice_get}
 use Rattle.std.proofs.lemmas.Bool.{cases_lt}
 use Rattle.std.proofs.lemmas.Option.{same_Some}
 use Rattle.cell_base.specs.Raster.{Place, Raster, value_at}
-use Rattle.cell_base.specs.Steps.{AreNext, IsStep, SharesCorner, SharesSide}
+use Rattle.cell_base.specs.Steps.{AreNext, IsStep, SharesCorner, SharesSide, step_reach}
 use Rattle.cell_base.specs.Walk.{IsJoined, IsWalk, StepsInto}
 use Rattle.cell_base.proofs.WalkLemmas.{joined_itself, joined_more, joined_sym, joined_trans}
 use Rattle.region_label.specs.Component.{HasValue, InComponent}
 use Rattle.region_label.specs.Run.{Run, IsCellOf, IsRunIn, first_cell}
 use Rattle.region_label.specs.RunTable.{IsTableOfCells, TableOfRuns}
-use Rattle.region_label.specs.Inner.Lists.{IsContact, IsOf, Touches, corner}
+use Rattle.region_label.specs.Inner.Lists.{IsContact, IsOf, Touches}
 use Rattle.region_label.proofs.ComponentLemmas.{component_itself, component_trans, same_value}
 
 pub side_step : (connectivity : Bool) (a b : Place) → SharesSide a b → IsStep connectivity a b
@@ -123,7 +123,7 @@ stays_in_row set run p q is in_p in_set same (inr right) = elim (cases_lt q.1 ru
 ]
 
 -- a step leads along the row, or to a run that touches
-pub step_cases : (connectivity : Bool) (p q : Place) → IsStep connectivity p q → ((p.0 ≡ q.0) × AreNext p.1 q.1) ⊎ (AreNext p.0 q.0 × (p.1 < q.1 + 1 + corner connectivity) × (q.1 < p.1 + 1 + corner connectivity))
+pub step_cases : (connectivity : Bool) (p q : Place) → IsStep connectivity p q → ((p.0 ≡ q.0) × AreNext p.1 q.1) ⊎ (AreNext p.0 q.0 × (p.1 < q.1 + 1 + step_reach connectivity) × (q.1 < p.1 + 1 + step_reach connectivity))
 step_cases false p q (inl row) = inl row
 step_cases false p q (inr col) = inr (col.1, omega (arith, col.0), omega (arith, col.0))
 step_cases true p q (inl (inl row)) = inl row

@@ -3,27 +3,22 @@ ghost use Rattle.std.specs.Prelude.{◌≡◌, ◌≢◌, ℕ, ◌+◌, ◌<◌,
 ghost use Rattle.cell_base.specs.Steps.{AreNext};
 ghost use Rattle.region_label.specs.Run.{Run};
 ghost use Rattle.region_label.specs.Inner.Table.{AreInOrder};
-ghost use Rattle.region_label.specs.Inner.Lists.{AreFilled, AreSized, Fills, HasNone, IsCleared, IsFree, IsLinkedToItself, IsNumbered, IsOf, Joins, TouchAt, contacts, corner};
+ghost use Rattle.region_label.specs.Inner.Lists.{AreFilled, AreSized, Fills, HasNone, IsCleared, IsFree, IsLinkedToItself, IsNumbered, IsOf, Joins, TouchAt, contacts};
 ghost use Rattle.region_label.specs.Inner.Blocks.{AreBeside, AreBlocksJoined, HasBlocks, IsPut, block_at, block_count};
 
 use crate::rows::RowRuns;
+use cell_base::Steps;
 use std::alloc::{AllocError, Global};
 
 // The component of each run, the run that follows it in its component's list (the last is followed by itself), and
-// the first run of each component so far.
+// the first run of each component so far. While a fill goes on they are those of the blocks, which are no more than the
+// runs.
 #[derive(Drop)]
 pub(crate) struct RunLists {
     pub(crate) components: Vec<Option<u32>>,
     pub(crate) links: Vec<u32>,
     pub(crate) firsts: Vec<u32>,
     pub(crate) count: u32,
-}
-
-// How far a step reaches past the ends of a run.
-fn reach<const EIGHT: bool>() -> u32
-    ensures { result ≡ corner EIGHT }
-{
-    if EIGHT { 1 } else { 0 }
 }
 
 // The run that follows one in a list whose first is given; the end stands for a list with none.
@@ -129,10 +124,10 @@ impl RunLists {
     {
         let run = rows.runs[at as usize];
         let mut last = last;
-        let from = run.from.saturating_sub(reach::<EIGHT>());
+        let from = run.from.saturating_sub(Steps::<EIGHT>::reach());
         let first = rows.first_past_from(row, from, guess);
         for i in first..rows.starts[row as usize + 1] as usize {
-            if rows.runs[i].from >= run.to + reach::<EIGHT>() {
+            if rows.runs[i].from >= run.to + Steps::<EIGHT>::reach() {
                 return last;
             }
             last = self.join::<EIGHT>(rows, at, i, last, number);

@@ -1,13 +1,13 @@
 // Finds the cycles of a table's links, and the corners where they turn.
 ghost use Rattle.std.specs.Prelude.{◌≡◌, ◌+◌, ◌++◌, ◌^◌, ◌<◌, IfOk, OnOk, length, vec_len};
-ghost use Rattle.edge_trace.specs.Edge.{is_level};
 ghost use Rattle.ring_faces.specs.Ring.{points_of};
+ghost use Rattle.ring_faces.specs.Inner.Blocks.{IsEmptyBlock};
 ghost use Rattle.ring_faces.specs.Inner.Chains.{AreRings, ring_along};
 ghost use Rattle.ring_faces.specs.Inner.Cycles.{AreAllCycles, AreFound, AreMarks, IsFree, IsRound, MarksThese, numbers_of};
-ghost use Rattle.ring_faces.specs.Inner.Tables.{IsLinkedTable, edge_at};
-ghost use Rattle.ring_faces.specs.Inner.Turns.{AddsTurn};
+ghost use Rattle.ring_faces.specs.Inner.Tables.{IsLinkedTable};
 
 use crate::rings::RingCorners;
+use crate::turns::TurnBlock;
 use edge_trace::{Corner, EdgeTable};
 use std::alloc::{AllocError, Global};
 
@@ -25,30 +25,11 @@ pub(crate) struct Cycles {
     pub(crate) rings: RingCorners,
 }
 
-// Adds the corner where an edge begins, unless the edge goes on as the one before; answers whether it is level.
-fn push_turn(
-    edges: &EdgeTable,
-    corners: &mut Vec<Corner>,
-    e: u32,
-    level: bool,
-) -> Result<bool, AllocError>
-    requires { e < length edges.now.edges }
-    ensures level { IfOk result (λ now. now ≡ is_level (edge_at edges.now e)) }
-    ensures turn { OnOk result
-        (AddsTurn (edge_at edges.now e) level (points_of corners.old.items) (points_of corners.new.items)) }
-{
-    let now = edges.is_level(e);
-    if now == level {
-        return Ok(now);
-    }
-    corners.push(edges.start(e))?;
-    Ok(now)
-}
-
 // Walks the cycle of an edge that isn't marked, marks its edges, and adds the corners where they turn.
 fn walk(
     edges: &EdgeTable,
     marks: &mut [bool],
+    block: &mut TurnBlock,
     corners: &mut Vec<Corner>,
     first: u32,
 ) -> Result<Cycle, AllocError>
@@ -57,11 +38,13 @@ fn walk(
     requires marks { AreMarks edges.now.next marks.old }
     requires first { first < length edges.now.next }
     requires free { IsFree marks.old first }
+    requires block { IsEmptyBlock block.old }
     ensures first { IfOk result (λ cycle. cycle.first ≡ first) }
     ensures round { IfOk result (IsRound edges.now.next) }
     ensures marks { IfOk result (λ cycle. MarksThese (numbers_of edges.now.next cycle) marks.old marks.new) }
     ensures corners { IfOk result (λ cycle.
         points_of corners.new.items ≡ points_of corners.old.items ++ ring_along edges.now cycle) }
+    ensures block { OnOk result (IsEmptyBlock block.new) }
 {
     let mut count = 0;
     let mut at = first;
@@ -69,9 +52,10 @@ fn walk(
     'walk: while !marks[at as usize] {
         marks[at as usize] = true;
         count += 1;
-        level = push_turn(edges, corners, at, level)?;
+        level = block.push_turn(edges, corners, at, level)?;
         at = edges.next(at);
     }
+    block.move_to(corners)?;
     Ok(Cycle {
         first,
         edges: count,
@@ -80,19 +64,27 @@ fn walk(
 
 impl Cycles {
     // Adds the cycle of an edge and its ring, unless it was found by an earlier edge.
-    fn find(&mut self, edges: &EdgeTable, marks: &mut [bool], e: u32) -> Result<(), AllocError>
+    fn find(
+        &mut self,
+        edges: &EdgeTable,
+        marks: &mut [bool],
+        block: &mut TurnBlock,
+        e: u32,
+    ) -> Result<(), AllocError>
         requires linked { IsLinkedTable edges.now }
         requires few { length edges.now.edges < 2 ^ 32 }
         requires edge { e < length edges.now.next }
         requires found { AreFound edges.now.next self.old.cycles.items marks.old e }
         requires rings { AreRings edges.now self.old.cycles.items self.old.rings }
+        requires block { IsEmptyBlock block.old }
         ensures found { OnOk result (AreFound edges.now.next self.new.cycles.items marks.new (e + 1)) }
         ensures rings { OnOk result (AreRings edges.now self.new.cycles.items self.new.rings) }
+        ensures block { OnOk result (IsEmptyBlock block.new) }
     {
         if marks[e as usize] {
             return Ok(());
         }
-        let cycle = walk(edges, marks, &mut self.rings.corners, e)?;
+        let cycle = walk(edges, marks, block, &mut self.rings.corners, e)?;
         self.rings.starts.push(self.rings.corners.len())?;
         self.cycles.push(cycle)?;
         Ok(())
@@ -106,6 +98,7 @@ impl Cycles {
         ensures rings { IfOk result (λ found. AreRings edges.now found.cycles.items found.rings) }
     {
         let mut marks = vec![in alloc; false; edges.count() as usize]?;
+        let mut block = TurnBlock::make(alloc)?;
         let mut found = Cycles {
             cycles: Vec::new(alloc),
             rings: RingCorners {
@@ -114,7 +107,7 @@ impl Cycles {
             },
         };
         for e in 0..edges.count() {
-            found.find(edges, &mut marks, e)?;
+            found.find(edges, &mut marks, &mut block, e)?;
         }
         Ok(found)
     }

@@ -8,6 +8,7 @@ mod lists;
 mod owners;
 mod polygon;
 mod rings;
+mod turns;
 mod walk;
 
 pub use faces::Faces;

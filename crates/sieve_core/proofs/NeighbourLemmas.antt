@@ -5,13 +5,12 @@ use Rattle.std.proofs.lemmas.Bool.{cases_eq, cases_lt}
 use Rattle.std.proofs.lemmas.List.{get_or-replicate, length-replicate}
 use Rattle.std.proofs.lemmas.Option.{get_or_from_slice_get, same_Some, slice_get-get_or, slice_get_within}
 use Rattle.cell_base.specs.Raster.{Place, IsRaster}
-use Rattle.cell_base.specs.Steps.{IsStep}
+use Rattle.cell_base.specs.Steps.{IsStep, step_reach}
 use Rattle.cell_base.proofs.PlaceLemmas.{element_at, inside_from_value}
 use Rattle.cell_base.proofs.StepsLemmas.{step_back}
 use Rattle.region_label.specs.Labelling.{RegionTable, IsInRegion}
 use Rattle.region_label.specs.Run.{Run, IsCellOf, first_cell}
 use Rattle.region_label.specs.RunTable.{BeginsRow, IsTableOfRegions, TableOfRuns}
-use Rattle.region_label.specs.Inner.Lists.{corner}
 use Rattle.region_label.proofs.JoinLemmas.{AreClose, close, side_step, step_cases}
 use Rattle.region_label.proofs.ListLemmas.{slice_get-set_other, slice_get-set_same}
 use Rattle.sieve_core.specs.Sieve.{IsNextTo, size_of}
@@ -226,7 +225,7 @@ met_both connectivity regions table st middle new i j k m at_i at_j improves fir
     subst (λ (n : ℕ). (size_of regions n < st → IsCovered regions new n m') × (size_of regions m' < st → IsCovered regions new m' n)) same_k (subst (λ (n : ℕ). (size_of regions k < st → IsCovered regions new k n) × (size_of regions n < st → IsCovered regions new n k)) same_m both)
 
 -- a run that begins too far right comes next to none, nor does one after it in its row
-pub too_late : (connectivity : Bool) (regions : RegionTable) (table : TableOfRuns) (i j m : ℕ) (late a b : Run) → IsTableOfRegions regions table → slice_get table.runs j ≡ Some late → slice_get table.runs m ≡ Some a → slice_get table.runs i ≡ Some b → j ≤ m → late.row ≡ a.row → b.row ≡ a.row + 1 → b.to + corner connectivity ≤ late.from → ¬ ComesNext connectivity a b
+pub too_late : (connectivity : Bool) (regions : RegionTable) (table : TableOfRuns) (i j m : ℕ) (late a b : Run) → IsTableOfRegions regions table → slice_get table.runs j ≡ Some late → slice_get table.runs m ≡ Some a → slice_get table.runs i ≡ Some b → j ≤ m → late.row ≡ a.row → b.row ≡ a.row + 1 → b.to + step_reach connectivity ≤ late.from → ¬ ComesNext connectivity a b
 too_late connectivity regions table i j m late a b lent at_late at_a at_b less row below far next =
     let further : late.from ≤ a.from = elim (cases_eq j m) [
       | inl same ↦
@@ -266,7 +265,7 @@ pub record IsMeeting (connectivity : Bool) (regions : RegionTable) (table : Tabl
   pub improves : Improves connectivity regions old new
   pub above_end : above ≤ start
   pub above_start : (j : ℕ) (a : Run) → above ≤ j → j < start → slice_get table.runs j ≡ Some a → row ≡ a.row + 1
-  pub early : (j m : ℕ) (a b : Run) → slice_get table.runs j ≡ Some a → slice_get table.runs m ≡ Some b → row ≡ a.row + 1 → j < above → i ≤ m → b.row ≡ row → a.to + corner connectivity ≤ b.from
+  pub early : (j m : ℕ) (a b : Run) → slice_get table.runs j ≡ Some a → slice_get table.runs m ≡ Some b → row ≡ a.row + 1 → j < above → i ≤ m → b.row ≡ row → a.to + step_reach connectivity ≤ b.from
   pub met : (m : ℕ) → m < i → HasMetAll connectivity regions table st new m (λ j a b. b.row ≡ row)
 
 begins_later : (regions : RegionTable) (table : TableOfRuns) (i m : ℕ) (run b : Run) → IsTableOfRegions regions table → slice_get table.runs i ≡ Some run → slice_get table.runs m ≡ Some b → i ≤ m → run.row ≡ b.row → run.from ≤ b.from
@@ -297,7 +296,7 @@ above_of connectivity regions table i first start at run lent at_run rows touchi
         | inr before ↦ omega (arith, before.1, run_some regions table j a lent at_a)
       ]
     ] in
-    subst (λ (r : Run). (r.row ≡ a.row + 1) × (r.from < a.to + corner connectivity)) same (row, omega (arith, late, ends))
+    subst (λ (r : Run). (r.row ≡ a.row + 1) × (r.from < a.to + step_reach connectivity)) same (row, omega (arith, late, ends))
 
 -- one run more
 pub meeting_on : (connectivity : Bool) (regions : RegionTable) (table : TableOfRuns) (st : ℕ) (old now left new : List (Option ℕ)) (row start above at i : ℕ) (run : Run) → IsTableOfRegions regions table → IsMeeting connectivity regions table st old now row start above i → slice_get table.runs i ≡ Some run → run.row ≡ row → ((j : ℕ) (a : Run) → start ≤ j → slice_get table.runs j ≡ Some a → row ≤ a.row) → Improves connectivity regions now left → HasMetAll connectivity regions table st left i (λ j a b. b.row ≡ a.row) → IsFirstTouching connectivity table i above start at → AreBest regions new → Improves connectivity regions left new → HasMetAll connectivity regions table st new i (λ j a b. (at ≤ j) × (j < start)) → IsMeeting connectivity regions table st old new row start at (i + 1)
@@ -340,7 +339,7 @@ meeting_on connectivity regions table st old now left new row start above at i r
     above_row a b row is other (inl side) = absurd (other side.0)
     above_row a b row is other (inr below) = omega (arith, below.0)
 
-    not_far : (a b : Run) → b.row ≢ a.row → ComesNext connectivity a b → a.to + corner connectivity ≤ b.from → ⊥
+    not_far : (a b : Run) → b.row ≢ a.row → ComesNext connectivity a b → a.to + step_reach connectivity ≤ b.from → ⊥
     not_far a b other (inl side) far = other side.0
     not_far a b other (inr below) far = omega (arith, below.2, far)
 

@@ -1,20 +1,13 @@
 // Finds the largest neighbour of each small component, by the runs of neighbouring rows.
 ghost use Rattle.std.specs.Prelude.{◌≡◌, ◌+◌, ◌^◌, ◌≤◌, ◌<◌, ℕ, false, Some, IfOk, IsTrue, length};
 ghost use Rattle.region_label.specs.RunTable.{IsTableOfRegions};
-ghost use Rattle.region_label.specs.Inner.Lists.{corner};
 ghost use Rattle.sieve_core.specs.Sieve.{IsNextTo, size_of};
 ghost use Rattle.sieve_core.specs.Inner.Neighbours.{AreAbove, AreBest, AreLargest, AreNear, HasMetAll, HaveMet, Improves};
 ghost use Rattle.sieve_core.specs.Inner.Neighbours.{IsCovered, IsFirstTouching, IsNoBetter, RowsHaveMet};
 
+use cell_base::Steps;
 use region_label::{Regions, RunTable};
 use std::alloc::{AllocError, Global};
-
-// How far a step reaches past the ends of a run.
-fn reach<const EIGHT: bool>() -> u32
-    ensures { result ≡ corner EIGHT }
-{
-    if EIGHT { 1 } else { 0 }
-}
 
 // Whether a neighbour is larger than the best so far, or as large with a lower number.
 fn is_better(regions: &Regions, best: Option<u32>, other: u32) -> bool
@@ -127,7 +120,7 @@ fn first_touching<const EIGHT: bool>(table: &RunTable, i: usize, from: usize, en
     let runs = table.runs();
     let start = runs[i].from;
     let mut at = from;
-    while at < end && runs[at].to + reach::<EIGHT>() <= start {
+    while at < end && runs[at].to + Steps::<EIGHT>::reach() <= start {
         at += 1;
     }
     at
@@ -155,7 +148,7 @@ fn meet_above<const EIGHT: bool>(
     let runs = table.runs();
     let to = runs[i].to;
     for j in from..end {
-        if runs[j].from >= to + reach::<EIGHT>() {
+        if runs[j].from >= to + Steps::<EIGHT>::reach() {
             return;
         }
         meet::<EIGHT>(regions, table, st, largest, j, i);

@@ -15,7 +15,7 @@ use Rattle.contour_segments.specs.Segments.{segments_of}
 use Rattle.contour_segments.specs.declared.level.LevelSpec.{LevelSpec}
 use Rattle.contour_segments.specs.declared.segment.Segment.{Segment}
 use Rattle.contour_chain.specs.Contours.{AreContours}
-use Rattle.contour_chain.specs.Points.{line_through, points_of}
+use Rattle.contour_chain.specs.Points.{line_through, points_along}
 use Rattle.wkt_text.specs.Spelling.{wkt}
 use Rattle.wkt_text.specs.declared.geometry.Geometry.{Geometry}
 use Rattle.ogr_csv.specs.Rows.{text_of_rows}
@@ -49,7 +49,7 @@ pub record AreLevelsOf (job : ContourJob) (asc : Asc ℤ) (levels : List ℤ) : 
 -- what is drawn of a level: those of its lines that have more than one point, each with the level
 abbrev pub drawn_of : Frame → Raster ℤ → ℤ → List (List Segment) → List (ℤ × Geometry)
 drawn_of frame cells level lines =
-    map (λ shape. (level, shape)) (filter_map (λ line. line_through (points_of frame cells level line)) lines)
+    map (λ shape. (level, shape)) (filter_map (λ line. line_through (points_along frame cells level line)) lines)
 
 -- the text of a level, where a field is asked for
 abbrev pub level_fields : Option Text → ℤ → List Text

@@ -15,7 +15,7 @@ use Rattle.contour_segments.proofs.MemberLemmas.{all_of}
 use Rattle.contour_segments.proofs.PlaceLemmas.{fewer, places_long}
 use Rattle.contour_chain.specs.Contours.{AreContours, ends_of}
 use Rattle.contour_chain.specs.Lines.{IsLine}
-use Rattle.contour_chain.specs.Points.{IsContourLine, line_through, points_of}
+use Rattle.contour_chain.specs.Points.{IsContourLine, line_through, points_along}
 use Rattle.contour_chain.proofs.ChainLemmas.{one_list_of_contours}
 use Rattle.std.proofs.lemmas.Bool.{cases_lt}
 use Rattle.std.proofs.lemmas.Option.{none-some, same_Some}
@@ -123,7 +123,7 @@ row_next field id drawn more before after is =
 -- the next line is drawn, or left out
 
 abbrev pub shape_of : Frame → Raster ℤ → ℤ → List Segment → Option Geometry
-shape_of frame cells level line = line_through (points_of frame cells level line)
+shape_of frame cells level line = line_through (points_along frame cells level line)
 
 abbrev pub at_level : ℤ → List Geometry → List (ℤ × Geometry)
 at_level level shapes = map (λ shape. (level, shape)) shapes

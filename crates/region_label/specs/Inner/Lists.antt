@@ -1,19 +1,15 @@
 -- The runs of each component as a linked list, and how far a fill has come.
 use Rattle.std.specs.Prelude.{◌≡◌, ◌≢◌, ℕ, ◌+◌, ◌<◌, ◌≤◌, ◌⊎◌, ℤ, Bool, List, ◌++◌, Option, Some, None, AllPairs, Contains, length, replicate, slice_get, if◌then◌else◌}
-use Rattle.cell_base.specs.Steps.{AreNext}
+use Rattle.cell_base.specs.Steps.{AreNext, step_reach}
 use Rattle.cell_base.specs.Walk.{IsWalk}
 use Rattle.region_label.specs.Run.{Run}
 use Rattle.region_label.specs.Inner.Rows.{noted_units}
 use Rattle.region_label.specs.declared.rows.RowRuns.{RowRuns}
 use Rattle.region_label.specs.declared.lists.RunLists.{RunLists}
 
--- how far the cells of a run reach past its ends
-abbrev pub corner : Bool → ℕ
-corner connectivity = if connectivity then 1 else 0
-
 -- the runs are in neighbouring rows, and a step leads from a cell of the one to a cell of the other
 abbrev pub Touches : Bool → Run → Run → Type 0
-Touches connectivity a b = AreNext a.row b.row × (a.from < b.to + corner connectivity) × (b.from < a.to + corner connectivity)
+Touches connectivity a b = AreNext a.row b.row × (a.from < b.to + step_reach connectivity) × (b.from < a.to + step_reach connectivity)
 
 -- two runs of equal units touch
 pub record IsContact (connectivity : Bool) (runs : List Run) (units : List ℤ) (i j : ℕ) : Type 0 where

@@ -3,7 +3,7 @@ use Rattle.std.specs.Prelude.{◌≡◌, ◌≢◌, ℕ, ◌+◌, ◌<◌, ◌�
 use Rattle.region_label.specs.Labelling.{RegionTable}
 use Rattle.region_label.specs.Run.{Run}
 use Rattle.region_label.specs.RunTable.{TableOfRuns}
-use Rattle.region_label.specs.Inner.Lists.{corner}
+use Rattle.cell_base.specs.Steps.{step_reach}
 use Rattle.sieve_core.specs.Sieve.{IsNextTo, IsLargest, size_of}
 
 -- one component is no better a neighbour than another: smaller, or as large with no lower number
@@ -44,7 +44,7 @@ HaveMet regions table st best i j = (k m : ℕ) → slice_get table.components i
 -- the second run begins where the first ends, or is in the next row and touches it
 abbrev pub ComesNext : Bool → Run → Run → Type 0
 ComesNext connectivity a b = ((b.row ≡ a.row) × (b.from ≡ a.to))
-    ⊎ ((b.row ≡ a.row + 1) × (a.from < b.to + corner connectivity) × (b.from < a.to + corner connectivity))
+    ⊎ ((b.row ≡ a.row + 1) × (a.from < b.to + step_reach connectivity) × (b.from < a.to + step_reach connectivity))
 
 -- a run has met the runs of this kind that come just before it
 abbrev pub HasMetAll : Bool → RegionTable → TableOfRuns → ℕ → List (Option ℕ) → ℕ → (ℕ → Run → Run → Type 0) → Type 0
@@ -58,7 +58,7 @@ RowsHaveMet connectivity regions table st best rows = (i : ℕ) → HasMetAll co
 -- the runs from one index up to another are in the row above a run, and end far enough to the right to touch it
 abbrev pub AreAbove : Bool → TableOfRuns → ℕ → ℕ → ℕ → Type 0
 AreAbove connectivity table i from to = (j : ℕ) (a b : Run) → from ≤ j → j < to → slice_get table.runs j ≡ Some a
-    → slice_get table.runs i ≡ Some b → (b.row ≡ a.row + 1) × (b.from < a.to + corner connectivity)
+    → slice_get table.runs i ≡ Some b → (b.row ≡ a.row + 1) × (b.from < a.to + step_reach connectivity)
 
 -- the largest neighbours of the small components
 pub record AreLargest (connectivity : Bool) (regions : RegionTable) (st : ℕ) (largest : List (Option ℕ)) : Type 0 where
@@ -72,6 +72,6 @@ pub record IsFirstTouching (connectivity : Bool) (table : TableOfRuns) (i first 
   pub from : first ≤ at
   pub to : at ≤ end
   pub early : (j : ℕ) (a b : Run) → first ≤ j → j < at → slice_get table.runs j ≡ Some a
-      → slice_get table.runs i ≡ Some b → a.to + corner connectivity ≤ b.from
+      → slice_get table.runs i ≡ Some b → a.to + step_reach connectivity ≤ b.from
   pub late : (a b : Run) → at < end → slice_get table.runs at ≡ Some a
-      → slice_get table.runs i ≡ Some b → b.from < a.to + corner connectivity
+      → slice_get table.runs i ≡ Some b → b.from < a.to + step_reach connectivity

@@ -7,7 +7,7 @@ use Rattle.cell_base.specs.Raster.{Raster}
 use Rattle.geo_transform.specs.declared.frame.Frame.{Frame}
 use Rattle.contour_segments.specs.declared.segment.Segment.{Segment}
 use Rattle.wkt_text.specs.declared.geometry.Pt.{Pt}
-use Rattle.contour_chain.specs.Points.{line_through, point_at, points_of}
+use Rattle.contour_chain.specs.Points.{line_through, point_at, points_along}
 use Rattle.contour_chain.specs.Inner.Crossings.{Straddles}
 use Rattle.contour_chain.proofs.PathLemmas.{first_point, more_points, next_point, one_point, points_behind, some_points}
 use Rattle.contour_chain.proofs.StraddleLemmas.{line_straddles, some_segment}
@@ -77,7 +77,7 @@ loop-segment-preserved c =
     next_point frame cells c.args.level c.loop-segment.last c.point_at-point.result s (drop (i + 1) segments) c.loop-segment.path c.add.new.path at c.in_ok-add.ensures ∙ ap (λ (xs : List Segment). c.loop-segment.path ++ points_behind frame cells c.args.level c.loop-segment.last xs) (sym rest) ∙ c.loop-segment.invariant
 
 -- when no segment is left, all points are there
-whole : (frame : Frame) (cells : Raster ℤ) (level : ℤ) (last : Pt) (segments : List Segment) (i : ℕ) (path : List Pt) (line : List Segment) → length segments ≤ i → path ++ points_behind frame cells level last (drop i segments) ≡ points_of frame cells level line → path ≡ points_of frame cells level line
+whole : (frame : Frame) (cells : Raster ℤ) (level : ℤ) (last : Pt) (segments : List Segment) (i : ℕ) (path : List Pt) (line : List Segment) → length segments ≤ i → path ++ points_behind frame cells level last (drop i segments) ≡ points_along frame cells level line → path ≡ points_along frame cells level line
 whole frame cells level last segments i path line past is =
     let none_left : drop i segments ≡ [] = grind (arith, common_steps, past) in
     sym (ap (λ (xs : List Segment). path ++ points_behind frame cells level last xs) none_left ∙ append-nil path) ∙ is

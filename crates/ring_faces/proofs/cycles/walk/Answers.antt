@@ -1,6 +1,7 @@
-use Rattle.std.proofs.Common.{◌≡◌, ◌+◌, ℕ, set, true, subst, arith}
+use Rattle.std.proofs.Common.{◌≡◌, ◌+◌, ◌∙◌, ℕ, set, true, ap, subst, arith}
 use Rattle.std.specs.Prelude.{slice_index}
 use Rattle.std.proofs.lemmas.Option.{get_or_from_slice_get}
+use Rattle.ring_faces.specs.Ring.{points_of}
 use Rattle.ring_faces.proofs.CornerLemmas.{turns_done, turns_on}
 use Rattle.ring_faces.proofs.NumberLemmas.{IsUnderWay, under_way_on, under_way_round, under_way_short}
 use Rattle.ring_faces.proofs.cycles.walk.Goals as goal
@@ -20,6 +21,7 @@ walk-preserved c =
       way = subst (λ (i : ℕ). IsUnderWay c.args.edges.now.next c.args.marks.now (set c.walk.marks c.walk.at true) c.args.first (c.walk.count + 1) i) next
           (under_way_on _ _ _ _ _ _ c.requires.linked.links c.requires.marks c.walk.invariant.way c.walk-test.true);
       turns = turns_on c.args.edges.now _ _ _ _ _ _ _ c.walk.at c.walk.invariant.turns c.walk.invariant.way.leads turned.turn turned.level;
+      block = turned.block;
     }
 
 pub returns-clause-round : goal.returns-clause-round
@@ -28,4 +30,5 @@ returns-clause-round c = under_way_round _ _ _ _ _ _ c.requires.linked.links c.w
 pub returns-clause-corners : goal.returns-clause-corners
 returns-clause-corners c =
     let round = under_way_round _ _ _ _ _ _ c.requires.linked.links c.walk.invariant.way c.walk-test.false in
-    turns_done c.args.edges.now _ _ _ _ _ c.walk.invariant.turns round.some
+    let moved = c.in_ok-move_to.ensures.moved in
+    ap points_of moved ∙ turns_done c.args.edges.now _ _ _ _ _ c.walk.invariant.turns round.some

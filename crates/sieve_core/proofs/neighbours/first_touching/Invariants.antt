@@ -2,7 +2,7 @@ use Rattle.std.proofs.Common.{◌≡◌, ◌-◌, ◌+◌, ◌<◌, ◌≤◌, �
 use Rattle.std.specs.Prelude.{nat_eq, slice_get}
 use denote.Param.{value_of, number}
 use Rattle.region_label.specs.Run.{Run}
-use Rattle.region_label.specs.Inner.Lists.{corner}
+use Rattle.cell_base.specs.Steps.{step_reach}
 use Rattle.sieve_core.proofs.neighbours.first_touching.Given as goal
 
 -- the runs before this one end too far left
@@ -10,7 +10,7 @@ abbrev pub invariant-loop-at : goal.invariant-loop-at
 invariant-loop-at g l = record {
   from : l.from ≤ l.at;
   to : l.at ≤ l.end;
-  early : (j : ℕ) (a : Run) → l.from ≤ j → j < l.at → slice_get l.table.runs j ≡ Some a → a.to + corner (not (nat_eq (value_of (number g.row.EIGHT)) 0)) ≤ l.start;
+  early : (j : ℕ) (a : Run) → l.from ≤ j → j < l.at → slice_get l.table.runs j ≡ Some a → a.to + step_reach (not (nat_eq (value_of (number g.row.EIGHT)) 0)) ≤ l.start;
 }
 
 abbrev pub decreases-loop-at : goal.decreases-loop-at

@@ -1,0 +1,90 @@
+// The corners where walks turn, gathered in blocks.
+ghost use Rattle.std.specs.Prelude.{◌≡◌, ◌+◌, ◌<◌, ◌≤◌, ◌++◌, IfOk, OnOk, length};
+ghost use Rattle.edge_trace.specs.Edge.{is_level};
+ghost use Rattle.ring_faces.specs.Ring.{points_of};
+ghost use Rattle.ring_faces.specs.Inner.Blocks.{IsBlock, IsEmptyBlock, gathered, held};
+ghost use Rattle.ring_faces.specs.Inner.Tables.{edge_at};
+ghost use Rattle.ring_faces.specs.Inner.Turns.{AddsTurn};
+
+use edge_trace::{Corner, EdgeTable};
+use std::alloc::{AllocError, Global};
+
+// So many corners stay in the nearest memory.
+const BLOCK: usize = 1_024;
+
+// The corners where a walk turned last, on their way into a longer list. Each edge's corner is written to the block, and
+// counted only where the walk turns: a jump would be as often wrong as right.
+#[derive(Drop)]
+pub(crate) struct TurnBlock {
+    pub(crate) corners: Vec<Corner>,
+    pub(crate) count: usize,
+}
+
+impl TurnBlock {
+    // A block that holds no corner. The only error is want of memory.
+    pub(crate) fn make(alloc: Global) -> Result<TurnBlock, AllocError>
+        ensures { IfOk result IsEmptyBlock }
+    {
+        let corners = vec![in alloc; Corner { row: 0, col: 0 }; BLOCK]?;
+        Ok(TurnBlock { corners, count: 0 })
+    }
+
+    // Takes the corner where an edge begins, unless the edge goes on as the one before; answers whether it is level.
+    fn take_turn(&mut self, edges: &EdgeTable, e: u32, level: bool) -> bool
+        requires edge { e < length edges.now.edges }
+        requires room { self.old.count < length self.old.corners.items }
+        ensures level { result ≡ is_level (edge_at edges.now e) }
+        ensures turn { AddsTurn (edge_at edges.now e) level (points_of (held self.old)) (points_of (held self.new)) }
+        ensures block { IsBlock self.new }
+    {
+        let now = edges.is_level(e);
+        self.corners[self.count] = edges.start(e);
+        self.count += (now != level) as usize;
+        now
+    }
+
+    // Moves its corners to a list.
+    pub(crate) fn move_to(&mut self, corners: &mut Vec<Corner>) -> Result<(), AllocError>
+        requires block { IsBlock self.old }
+        ensures moved { OnOk result (corners.new.items ≡ corners.old.items ++ held self.old) }
+        ensures empty { OnOk result (IsEmptyBlock self.new) }
+    {
+        corners.extend_from_slice(&self.corners[..self.count])?;
+        self.count = 0;
+        Ok(())
+    }
+
+    // Moves its corners to a list if there is no room for another.
+    fn make_room(&mut self, corners: &mut Vec<Corner>) -> Result<(), AllocError>
+        requires block { IsBlock self.old }
+        ensures same { OnOk result (gathered corners.new.items self.new ≡ gathered corners.old.items self.old) }
+        ensures room { OnOk result (self.new.count < length self.new.corners.items) }
+    {
+        if self.count < self.corners.len() {
+            return Ok(());
+        }
+        self.move_to(corners)?;
+        Ok(())
+    }
+
+    // Adds the corner where an edge begins to a list and this block behind it, unless the edge goes on as the one before;
+    // answers whether it is level.
+    pub(crate) fn push_turn(
+        &mut self,
+        edges: &EdgeTable,
+        corners: &mut Vec<Corner>,
+        e: u32,
+        level: bool,
+    ) -> Result<bool, AllocError>
+        requires edge { e < length edges.now.edges }
+        requires block { IsBlock self.old }
+        ensures level { IfOk result (λ now. now ≡ is_level (edge_at edges.now e)) }
+        ensures turn { OnOk result (AddsTurn (edge_at edges.now e) level
+            (gathered corners.old.items self.old) (gathered corners.new.items self.new)) }
+        ensures block { OnOk result (IsBlock self.new) }
+    {
+        self.make_room(corners)?;
+        let now = self.take_turn(edges, e, level);
+        Ok(now)
+    }
+}
