@@ -98,7 +98,7 @@ pub beside_to : (connectivity : Bool) (rows : RowRuns) (i j number : ℕ) → bl
 beside_to connectivity rows i j number is contact = record { first = i; second = j; in_first = refl; in_second = is; contact = contact }
 
 -- a contact under four is one under eight
-wider : (connectivity : Bool) (runs : List Run) (units : List ℤ) (i j : ℕ) → IsContact connectivity runs units i j → IsContact true runs units i j
+pub wider : (connectivity : Bool) (runs : List Run) (units : List ℤ) (i j : ℕ) → IsContact connectivity runs units i j → IsContact true runs units i j
 wider connectivity runs units i j contact = record {
   first = contact.first;
   second = contact.second;

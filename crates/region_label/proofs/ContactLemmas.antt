@@ -60,27 +60,14 @@ pub corner_small : (connectivity : Bool) → step_reach connectivity ≤ 1
 corner_small true = omega arith
 corner_small false = omega arith
 
-contact_runs : (connectivity : Bool) (runs : List Run) (units : List ℤ) (i j : ℕ) (a b : Run) → slice_get runs i ≡ Some a → slice_get runs j ≡ Some b → IsContact connectivity runs units i j → Touches connectivity a b
+pub contact_runs : (connectivity : Bool) (runs : List Run) (units : List ℤ) (i j : ℕ) (a b : Run) → slice_get runs i ≡ Some a → slice_get runs j ≡ Some b → IsContact connectivity runs units i j → Touches connectivity a b
 contact_runs connectivity runs units i j a b at_a at_b contact =
     let first : contact.first ≡ a = same_Some contact.first a (sym contact.at_first ∙ at_a) in
     let second : contact.second ≡ b = same_Some contact.second b (sym contact.at_second ∙ at_b) in
     subst (λ (r : Run). Touches connectivity r b) first (subst (λ (r : Run). Touches connectivity contact.first r) second contact.touch)
 
--- a run that ends too early, or begins too late, doesn't touch
-
-pub far_before : (connectivity : Bool) (runs : List Run) (units : List ℤ) (i j : ℕ) (a b : Run) → slice_get runs i ≡ Some a → slice_get runs j ≡ Some b → 0 < b.to → b.to ≤ a.from - step_reach connectivity → ¬ IsContact connectivity runs units i j
-far_before connectivity runs units i j a b at_a at_b some early contact =
-    let touch = contact_runs connectivity runs units i j a b at_a at_b contact in
-    omega (arith, touch.1, corner_small connectivity)
-
+-- a run that begins too late doesn't touch
 pub far_after : (connectivity : Bool) (runs : List Run) (units : List ℤ) (i j : ℕ) (a b : Run) → slice_get runs i ≡ Some a → slice_get runs j ≡ Some b → a.to + step_reach connectivity ≤ b.from → ¬ IsContact connectivity runs units i j
 far_after connectivity runs units i j a b at_a at_b late contact =
     let touch = contact_runs connectivity runs units i j a b at_a at_b contact in
     omega (arith, touch.2)
-
--- a run of a neighbouring row that ends late enough and begins early enough touches
-pub touch_of : (connectivity : Bool) (a b run : Run) (row : ℕ) → run ≡ a → AreNext a.row row → b.row ≡ row → run.from - step_reach connectivity < b.to → b.from < run.to + step_reach connectivity → Touches connectivity a b
-touch_of connectivity a b run row same next is late early =
-    let from : run.from ≡ a.from = ap (λ (r : Run). r.from) same in
-    let to : run.to ≡ a.to = ap (λ (r : Run). r.to) same in
-    (subst (λ (n : ℕ). AreNext a.row n) (sym is) next, omega (arith, late, from), omega (arith, early, to))

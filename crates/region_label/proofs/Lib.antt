@@ -5,6 +5,7 @@ pub mod NoteLemmas
 pub mod SearchLemmas
 pub mod ListsLemmas
 pub mod ContactLemmas
+pub mod NotedLemmas
 pub mod FillLemmas
 pub mod FilledLemmas
 pub mod BesideLemmas

@@ -97,6 +97,7 @@ pub table_kept : (touch : ℕ → ℕ → Type 0) (rows : RowRuns) (old new : Ru
 table_kept touch rows old new kept filled = record {
   order = kept.order;
   blocks = kept.blocks;
+  noted = kept.noted;
   sized = filled.sized;
   few = omega (arith, filled.few, filled.sized.firsts);
   clear = λ none. filled_clear touch (length rows.runs.items) new filled none;

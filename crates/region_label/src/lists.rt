@@ -3,7 +3,9 @@ ghost use Rattle.std.specs.Prelude.{◌≡◌, ◌≢◌, ℕ, ◌+◌, ◌<◌,
 ghost use Rattle.cell_base.specs.Steps.{AreNext};
 ghost use Rattle.region_label.specs.Run.{Run};
 ghost use Rattle.region_label.specs.Inner.Table.{AreInOrder};
-ghost use Rattle.region_label.specs.Inner.Lists.{AreFilled, AreSized, Fills, HasNone, IsCleared, IsFree, IsLinkedToItself, IsNumbered, IsOf, Joins, TouchAt, contacts};
+ghost use Rattle.region_label.specs.Inner.Lists.{AreFilled, AreSized, Fills, HasNone, IsCleared, IsFree, IsLinkedToItself, IsNumbered, IsOf, Joins, BeginsBeside, contacts};
+ghost use Rattle.region_label.specs.Inner.Notes.{AreNoted, BeginAt};
+ghost use Rattle.region_label.specs.Inner.Rows.{noted_units};
 ghost use Rattle.region_label.specs.Inner.Blocks.{AreBeside, AreBlocksJoined, HasBlocks, IsPut, block_at, block_count};
 
 use crate::rows::RowRuns;
@@ -70,8 +72,8 @@ impl RunLists {
         self.count = 0;
     }
 
-    // Adds the block of a run to a list under way, if the run's units are those of the run that it touches and the block
-    // is in no component; answers the last of the list.
+    // Adds the block of a run to a list under way, if the run touches another and has its units and the block is in no
+    // component; answers the last of the list. That it begins early enough to touch is known.
     fn join<const EIGHT: bool>(
         &mut self,
         rows: &RowRuns,
@@ -86,11 +88,14 @@ impl RunLists {
         requires at { at < length rows.now.runs.items }
         requires run { run < length rows.now.runs.items }
         requires last { last < length rows.now.runs.items }
-        requires touch { TouchAt EIGHT rows.now at run }
+        requires beside { BeginsBeside EIGHT rows.now at run }
         ensures joins { Joins (AreBeside EIGHT rows.now) (block_at rows.now at) number self.old self.new last result }
         ensures joined { contacts EIGHT rows.now at run → IsNumbered self.new.components.items (block_at rows.now run) }
     {
         if rows.notes[run].units != rows.notes[at as usize].units {
+            return last;
+        }
+        if rows.runs[run].to + Steps::<EIGHT>::reach() <= rows.runs[at as usize].from {
             return last;
         }
         let block = rows.blocks.block_of(run as u32);
@@ -102,13 +107,13 @@ impl RunLists {
         block
     }
 
-    // Adds the blocks of the runs of a neighbouring row that touch a run of their units, looked for from a guess on.
+    // Adds the blocks of the runs of a neighbouring row that touch a run of their units, none of which is before a first.
     fn join_row<const EIGHT: bool>(
         &mut self,
         rows: &RowRuns,
         at: u32,
         row: u32,
-        guess: u32,
+        first: u32,
         last: u32,
         number: u32,
     ) -> u32
@@ -119,14 +124,13 @@ impl RunLists {
         requires last { last < length rows.now.runs.items }
         requires row { row < rows.now.nrows }
         requires next { (a : Run) → slice_get rows.now.runs.items at ≡ Some a → AreNext a.row row }
+        requires first { BeginAt rows.now.runs.items (noted_units rows.now.notes.items) rows.now.starts.items at row first }
         ensures joins { Joins (AreBeside EIGHT rows.now) (block_at rows.now at) number self.old self.new last result }
         ensures joined { AreBlocksJoined EIGHT rows.now (λ _ other. other ≡ row) at self.new }
     {
         let run = rows.runs[at as usize];
         let mut last = last;
-        let from = run.from.saturating_sub(Steps::<EIGHT>::reach());
-        let first = rows.first_past_from(row, from, guess);
-        for i in first..rows.starts[row as usize + 1] as usize {
+        for i in first as usize..rows.starts[row as usize + 1] as usize {
             if rows.runs[i].from >= run.to + Steps::<EIGHT>::reach() {
                 return last;
             }
@@ -145,6 +149,7 @@ impl RunLists {
     ) -> u32
         requires ordered { AreInOrder rows.now }
         requires blocks { HasBlocks rows.now }
+        requires noted { AreNoted rows.now }
         requires sized { AreSized (length rows.now.runs.items) self.old }
         requires at { at < length rows.now.runs.items }
         requires last { last < length rows.now.runs.items }
@@ -155,8 +160,8 @@ impl RunLists {
         if row == 0 {
             return last;
         }
-        let guess = rows.notes[at as usize].above;
-        self.join_row::<EIGHT>(rows, at, row - 1, guess, last, number)
+        let first = rows.notes[at as usize].above;
+        self.join_row::<EIGHT>(rows, at, row - 1, first, last, number)
     }
 
     // Adds the blocks of the runs of the row below that touch a run of their units.
@@ -169,6 +174,7 @@ impl RunLists {
     ) -> u32
         requires ordered { AreInOrder rows.now }
         requires blocks { HasBlocks rows.now }
+        requires noted { AreNoted rows.now }
         requires sized { AreSized (length rows.now.runs.items) self.old }
         requires at { at < length rows.now.runs.items }
         requires last { last < length rows.now.runs.items }
@@ -179,14 +185,15 @@ impl RunLists {
         if row == rows.nrows {
             return last;
         }
-        let guess = rows.notes[at as usize].below;
-        self.join_row::<EIGHT>(rows, at, row, guess, last, number)
+        let first = rows.notes[at as usize].below;
+        self.join_row::<EIGHT>(rows, at, row, first, last, number)
     }
 
     // Gives a block that is in no component, and all that are joined to it, a number, and links them.
     fn fill_from<const EIGHT: bool>(&mut self, rows: &RowRuns, start: u32, number: u32)
         requires ordered { AreInOrder rows.now }
         requires blocks { HasBlocks rows.now }
+        requires noted { AreNoted rows.now }
         requires sized { AreSized (length rows.now.runs.items) self.old }
         requires start { start < block_count rows.now }
         requires free { IsFree self.old.components.items start }
@@ -212,6 +219,7 @@ impl RunLists {
     fn fill_block<const EIGHT: bool>(&mut self, rows: &RowRuns, block: u32)
         requires ordered { AreInOrder rows.now }
         requires blocks { HasBlocks rows.now }
+        requires noted { AreNoted rows.now }
         requires block { block < block_count rows.now }
         requires filled { AreFilled (AreBeside EIGHT rows.now) (length rows.now.runs.items) self.old block }
         ensures { AreFilled (AreBeside EIGHT rows.now) (length rows.now.runs.items) self.new (block + 1) }
@@ -272,6 +280,7 @@ impl RunLists {
     pub(crate) fn fill<const EIGHT: bool>(&mut self, rows: &RowRuns)
         requires ordered { AreInOrder rows.now }
         requires blocks { HasBlocks rows.now }
+        requires noted { AreNoted rows.now }
         requires sized { AreSized (length rows.now.runs.items) self.old }
         requires clear { self.old.count ≡ 0 → HasNone self.old }
         ensures { AreFilled (contacts EIGHT rows.now) (length rows.now.runs.items) self.new

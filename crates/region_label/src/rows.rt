@@ -1,7 +1,8 @@
 // Finds the runs of a grid, row by row.
 ghost use Rattle.std.specs.Prelude.{◌≡◌, ◌<◌, ◌≤◌, ◌+◌, IfOk, OnOk, length, slice_index, true};
 ghost use Rattle.region_label.specs.Inner.Blocks.{AreApart, AreBlocksOf, GoesOn, HasPlaced};
-ghost use Rattle.region_label.specs.Inner.Rows.{AreFound, AreStarts, EndsAt, IsFirstPast, IsNonePast, IsValidAt, noted_units};
+ghost use Rattle.region_label.specs.Inner.Notes.{AreNoted, AreNotedBefore, IsFirstAlike, IsFirstReaching, Notes};
+ghost use Rattle.region_label.specs.Inner.Rows.{AreFound, AreStarts, EndsAt, IsFirstPast, IsValidAt, noted_units};
 ghost use Rattle.region_label.specs.Inner.Table.{AreInOrder, AreRowsOf, HasSize, KeepsRows};
 
 use crate::blocks::{Block, Blocks};
@@ -19,9 +20,10 @@ pub(crate) struct RowRuns {
     pub(crate) blocks: Blocks,
 }
 
-// What a fill reads of a run beside its place: the units of its cells, and where the runs beside it may begin in the row
-// above, and in the row below. These are guesses, from which a search goes on, so that they are a matter of time alone.
-// They stand together, so that a fill that goes down a column finds them in one place.
+// What a fill reads of a run beside its place: the units of its cells, and in the row above, and in the row below, the
+// first run that meets it, at a side or at a corner, and has its units; where none does, the end of that row's runs. In
+// the first row `above`, and in the last `below`, says nothing. They stand together, so that a fill that goes down a
+// column finds them in one place.
 #[derive(Clone, Copy)]
 pub(crate) struct RunNote {
     pub(crate) units: i64,
@@ -135,17 +137,46 @@ impl RowRuns {
         Ok(rows)
     }
 
-    // The first run from an index on that ends past a column, or else the end.
-    fn ends_past(&self, col: u32, from: usize, end: usize) -> usize
-        requires from { from ≤ end }
-        requires end { end ≤ length self.now.runs.items }
-        ensures { result ≤ end }
+    // The first run of a row, from an index on, that ends at or past the start of a run; or else the end of the row's
+    // runs.
+    fn first_reaching(&self, row: u32, run: u32, from: u32) -> u32
+        requires ordered { AreInOrder self.now }
+        requires row { row < self.now.nrows }
+        requires run { run < length self.now.runs.items }
+        requires from { slice_index self.now.starts.items row ≤ from }
+        requires to { from ≤ slice_index self.now.starts.items (row + 1) }
+        ensures { IsFirstReaching self.now.runs.items run from (slice_index self.now.starts.items (row + 1)) result }
     {
+        let col = self.runs[run as usize].from;
+        let end = self.starts[row as usize + 1];
         let mut at = from;
-        'runs: while at < end && self.runs[at].to <= col {
+        'runs: while at < end && self.runs[at as usize].to < col {
             at += 1;
         }
         at
+    }
+
+    // The first run of a row, from an index on, that begins no later than a run ends, and has its units; or else the end
+    // of the row's runs.
+    fn first_alike(&self, row: u32, run: u32, from: u32) -> u32
+        requires ordered { AreInOrder self.now }
+        requires row { row < self.now.nrows }
+        requires run { run < length self.now.runs.items }
+        requires from { slice_index self.now.starts.items row ≤ from }
+        requires to { from ≤ slice_index self.now.starts.items (row + 1) }
+        ensures { IsFirstAlike self.now.runs.items (noted_units self.now.notes.items) run from (slice_index self.now.starts.items (row + 1)) result }
+    {
+        let last = self.runs[run as usize].to;
+        let units = self.notes[run as usize].units;
+        let end = self.starts[row as usize + 1];
+        let mut at = from;
+        'runs: while at < end && self.runs[at as usize].from <= last {
+            if self.notes[at as usize].units == units {
+                return at;
+            }
+            at += 1;
+        }
+        end
     }
 
     // Whether a run lies right below another, with its ends and its units.
@@ -176,39 +207,41 @@ impl RowRuns {
         if self.goes_on(above, run) { on + 1 } else { on }
     }
 
-    // Writes the guesses of a run.
-    fn guess(&mut self, run: usize, above: u32, below: u32)
+    // Writes where the runs begin that a run meets in the rows beside it.
+    fn note(&mut self, run: u32, above: u32, below: u32)
         requires { run < length self.old.notes.items }
-        ensures { KeepsRows self.old self.new }
+        ensures keeps { KeepsRows self.old self.new }
+        ensures notes { Notes self.old self.new run above below }
     {
-        let mut note = self.notes[run];
+        let mut note = self.notes[run as usize];
         note.above = above;
         note.below = below;
-        self.notes[run] = note;
+        self.notes[run as usize] = note;
     }
 
-    // Guesses, for each run of a row, where in the rows beside it the first run lies that ends past its start. Beyond
-    // the first and the last row there is nothing to find. Answers how many runs go on so far.
-    fn guess_row(&mut self, row: u32, on: usize) -> usize
+    // Notes where the runs begin that the runs of a row meet in the rows beside it. Beyond the first and the last row
+    // there are none, and the row stands for the one that isn't there. Answers how many runs go on so far.
+    fn note_row(&mut self, row: u32, on: usize) -> usize
         requires ordered { AreInOrder self.old }
         requires row { row < self.old.nrows }
         requires few { on ≤ slice_index self.old.starts.items row }
+        requires noted { AreNotedBefore self.old (slice_index self.old.starts.items row) }
         ensures keeps { KeepsRows self.old self.new }
         ensures few { result ≤ slice_index self.new.starts.items (row + 1) }
+        ensures noted { AreNotedBefore self.new (slice_index self.new.starts.items (row + 1)) }
     {
-        let row_above = row.saturating_sub(1) as usize;
-        let row_below = (row + 1).min(self.nrows - 1) as usize;
-        let mut above = self.starts[row_above] as usize;
-        let above_end = self.starts[row_above + 1] as usize;
-        let mut below = self.starts[row_below] as usize;
-        let below_end = self.starts[row_below + 1] as usize;
+        let row_above = row.saturating_sub(1);
+        let row_below = (row + 1).min(self.nrows - 1);
+        let mut above = self.starts[row_above as usize];
+        let mut below = self.starts[row_below as usize];
         let mut on = on;
         'runs: for run in self.starts[row as usize]..self.starts[row as usize + 1] {
-            let col = self.runs[run as usize].from;
-            above = self.ends_past(col, above, above_end);
-            below = self.ends_past(col, below, below_end);
-            on = self.count_on(above, run as usize, on);
-            self.guess(run as usize, above as u32, below as u32);
+            above = self.first_reaching(row_above, run, above);
+            below = self.first_reaching(row_below, run, below);
+            let first_above = self.first_alike(row_above, run, above);
+            let first_below = self.first_alike(row_below, run, below);
+            on = self.count_on(first_above as usize, run as usize, on);
+            self.note(run, first_above, first_below);
         }
         on
     }
@@ -218,10 +251,11 @@ impl RowRuns {
         requires ordered { AreInOrder self.old }
         ensures keeps { KeepsRows self.old self.new }
         ensures few { result ≤ length self.new.runs.items }
+        ensures noted { AreNoted self.new }
     {
         let mut on = 0;
         for row in 0..self.nrows {
-            on = self.guess_row(row, on);
+            on = self.note_row(row, on);
         }
         on
     }
@@ -309,42 +343,5 @@ impl RowRuns {
             }
         }
         low
-    }
-
-    // The first index of a row from which on, up to another, all runs end past a column.
-    fn back_to(&self, row: u32, col: u32, from: usize) -> usize
-        requires ordered { AreInOrder self.now }
-        requires row { row < self.now.nrows }
-        requires from { slice_index self.now.starts.items row ≤ from }
-        requires to { from ≤ slice_index self.now.starts.items (row + 1) }
-        ensures { IsNonePast self.now.runs.items self.now.starts.items row col result }
-    {
-        let start = self.starts[row as usize] as usize;
-        let mut at = from;
-        'back: while at > start {
-            if self.runs[at - 1].to <= col {
-                return at;
-            }
-            at -= 1;
-        }
-        at
-    }
-
-    // The same run as `first_past`, looked for from a guess on: the nearer the guess, the shorter the way.
-    pub(crate) fn first_past_from(&self, row: u32, col: u32, guess: u32) -> usize
-        requires ordered { AreInOrder self.now }
-        requires row { row < self.now.nrows }
-        ensures { IsFirstPast self.now.runs.items self.now.starts.items row col result }
-    {
-        let start = self.starts[row as usize] as usize;
-        let end = self.starts[row as usize + 1] as usize;
-        let mut at = self.back_to(row, col, (guess as usize).max(start).min(end));
-        'on: while at < end {
-            if self.runs[at].to > col {
-                return at;
-            }
-            at += 1;
-        }
-        at
     }
 }

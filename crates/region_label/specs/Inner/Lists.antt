@@ -75,9 +75,10 @@ pub record Joins (touch : ℕ → ℕ → Type 0) (at number : ℕ) (old new : R
 abbrev pub contacts : Bool → RowRuns → ℕ → ℕ → Type 0
 contacts connectivity rows = IsContact connectivity rows.runs.items (noted_units rows.notes.items)
 
--- the run at one index touches that at the other
-abbrev pub TouchAt : Bool → RowRuns → ℕ → ℕ → Type 0
-TouchAt connectivity rows i j = (a b : Run) → slice_get rows.runs.items i ≡ Some a → slice_get rows.runs.items j ≡ Some b → Touches connectivity a b
+-- the run at the second index lies in a row beside that of the first, and begins early enough to touch it
+abbrev pub BeginsBeside : Bool → RowRuns → ℕ → ℕ → Type 0
+BeginsBeside connectivity rows i j = (a b : Run) → slice_get rows.runs.items i ≡ Some a → slice_get rows.runs.items j ≡ Some b
+    → AreNext a.row b.row × (b.from < a.to + step_reach connectivity)
 
 -- a run that is in no component is linked to itself
 abbrev pub IsLinkedToItself : RunLists → Type 0

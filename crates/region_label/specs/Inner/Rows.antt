@@ -62,12 +62,6 @@ pub record EndsAt {T : Type 0} (cells : List T) (valid : List Bool) (from to : �
   pub same : (col : ℕ) → from ≤ col → col < to → IsValidAt valid col × (slice_get cells col ≡ slice_get cells from)
   pub end : IsValidAt valid to → slice_get cells to ≢ slice_get cells from
 
--- of the runs of a row, none before this index ends past a column
-pub record IsNonePast (runs : List Run) (starts : List ℕ) (row col at : ℕ) : Type 0 where
-  pub from : slice_index starts row ≤ at
-  pub to : at ≤ slice_index starts (row + 1)
-  pub before : (i : ℕ) (run : Run) → slice_get runs i ≡ Some run → slice_index starts row ≤ i → i < at → run.to ≤ col
-
 -- of the runs of a row, this is the first that ends past a column
 pub record IsFirstPast (runs : List Run) (starts : List ℕ) (row col at : ℕ) : Type 0 where
   pub from : slice_index starts row ≤ at

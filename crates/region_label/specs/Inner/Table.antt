@@ -4,6 +4,7 @@ use Rattle.cell_base.specs.Raster.{IsRaster, Raster}
 use Rattle.region_label.specs.Inner.Rows.{AreFound, AreInRows, noted_units}
 use Rattle.region_label.specs.Inner.Lists.{AreSized, HasNone, IsLinked}
 use Rattle.region_label.specs.Inner.Blocks.{HasBlocks}
+use Rattle.region_label.specs.Inner.Notes.{AreNoted}
 use Rattle.region_label.specs.Run.{Run}
 use Rattle.region_label.specs.RunTable.{IsTableOfRegions, TableOfRuns, regions_of}
 use Rattle.region_label.specs.declared.rows.RowRuns.{RowRuns}
@@ -19,7 +20,7 @@ pub record HasSize (old new : RowRuns) : Type 0 where
   pub nrows : new.nrows ≡ old.nrows
   pub blocks : new.blocks ≡ old.blocks
 
--- all but the guesses stays
+-- all stays but what notes say of the rows beside a run
 pub record KeepsRows (old new : RowRuns) : Type 0 where
   pub ncols : new.ncols ≡ old.ncols
   pub nrows : new.nrows ≡ old.nrows
@@ -35,6 +36,7 @@ pub record AreRowsOf {T : Type 0} (units_of : T → ℤ) (cells : Raster T) (val
   pub in_order : AreInOrder rows
   pub found : AreFound units_of cells valid rows.runs.items (noted_units rows.notes.items) (cells.nrows, 0)
   pub blocks : HasBlocks rows
+  pub noted : AreNoted rows
 
 -- at most so many members of a linked list, from one on to the one that is linked to itself
 abbrev pub linked_from : List ℕ → ℕ → ℕ → List ℕ
@@ -69,10 +71,11 @@ pub record IsOnList (runs : ℕ) (links : List ℕ) (at : ℕ) : Type 0 where
   pub at_index : slice_get list index ≡ Some at
   pub below : (i : ℕ) → Contains list i → i < runs
 
--- the runs are in order, and each component has a linked list; with no components the lists are as a fill begins
+-- the runs are in order and noted, and each component has a linked list; with no components the lists are as a fill begins
 pub record IsTable (rows : RowRuns) (lists : RunLists) : Type 0 where
   pub order : AreInOrder rows
   pub blocks : HasBlocks rows
+  pub noted : AreNoted rows
   pub sized : AreSized (length rows.runs.items) lists
   pub few : lists.count ≤ length lists.firsts.items
   pub clear : lists.count ≡ 0 → HasNone lists

@@ -1,7 +1,9 @@
-use Rattle.std.proofs.Common.{◌≡◌, Some, ap, sym, ◌∙◌, arith}
+use Rattle.std.proofs.Common.{◌≡◌, ◌-◌, Some, ap, sym, ◌∙◌, arith}
 use Rattle.std.specs.Prelude.{slice_get}
 use Rattle.std.proofs.lemmas.Option.{same_Some, slice_get-get_or}
 use Rattle.region_label.specs.Run.{Run}
+use Rattle.region_label.specs.declared.rows.RunNote.{RunNote}
+use Rattle.region_label.proofs.NoteLemmas.{length-noted}
 use Rattle.region_label.proofs.lists.RunLists.join_above.Goals as goal
 
 pub returns-clause-joined : goal.returns-clause-joined
@@ -11,3 +13,11 @@ returns-clause-joined g c =
     λ j a b at_a at_b above contact.
     let row : c.index.result.now.row ≡ a.row = ap (λ (r : Run). r.row) (same_Some c.index.result.now a (sym at_run ∙ at_a)) in
     c.join_row.ensures.joined j a b at_a at_b (omega arith) contact
+
+pub join_row-requires-clause-first : goal.join_row-requires-clause-first
+join_row-requires-clause-first g c =
+    let rows = c.args.rows.now in
+    let notes = rows.notes.items in
+    let at_run : slice_get rows.runs.items c.args.at ≡ Some c.index.result.now = slice_get-get_or rows.runs.items c.args.at c.index.result.now c.requires.at ∙ ap (λ (r : Run). Some r) (sym c.index.ensures) in
+    let at_note : slice_get notes c.args.at ≡ Some c.index-2.result.now = slice_get-get_or notes c.args.at c.index-2.result.now (omega (arith, c.requires.at, length-noted notes, c.requires.ordered.sized)) ∙ ap (λ (note : RunNote). Some note) (sym c.index-2.ensures) in
+    (c.requires.noted c.args.at c.index-2.result.now at_note).above c.index.result.now (c.index.result.now.row - 1) at_run (omega (arith, c.if-row-eq0.false))

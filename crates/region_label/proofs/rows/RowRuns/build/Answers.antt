@@ -28,7 +28,7 @@ returns-then-on-len g c =
     let starts = rw end at c.loop-row.invariant.starts in
     let count : c.len-2.result ≡ length rows.runs.items = cc (rows.runs.ok.0, c.len-2.ensures) in
     let apart = found_apart g.T.Cell.units_of c.args.cells.now c.args.valid.now rows.runs.items (noted_units rows.notes.items) (c.args.cells.now.nrows, 0) g.met.T.Cell.same_units found in
-    kept_rows g.T.Cell.units_of c.args.cells.now c.args.valid.now _ c.find_beside-on.new.self c.find_beside-on.ensures.keeps c.loop-row.invariant.ncols c.loop-row.invariant.nrows (rw (c.in_ok-push-2.ensures.items, count) (rows_built g.T.Cell.units_of c.args.cells.now c.args.valid.now rows.ncols rows.nrows rows.runs.items (noted_units rows.notes.items) rows.starts.items c.loop-row.invariant.ncols c.loop-row.invariant.nrows found starts)) found apart c.loop-row.invariant.none
+    kept_rows g.T.Cell.units_of c.args.cells.now c.args.valid.now _ c.find_beside-on.new.self c.find_beside-on.ensures.keeps c.loop-row.invariant.ncols c.loop-row.invariant.nrows (rw (c.in_ok-push-2.ensures.items, count) (rows_built g.T.Cell.units_of c.args.cells.now c.args.valid.now rows.ncols rows.nrows rows.runs.items (noted_units rows.notes.items) rows.starts.items c.loop-row.invariant.ncols c.loop-row.invariant.nrows found starts)) found apart c.loop-row.invariant.none c.find_beside-on.ensures.noted
 
 pub find_blocks-requires-clause-ordered : goal.find_blocks-requires-clause-ordered
 find_blocks-requires-clause-ordered g c =
@@ -38,7 +38,7 @@ find_blocks-requires-clause-ordered g c =
     let starts = rw end at c.loop-row.invariant.starts in
     let count : c.len-2.result ≡ length rows.runs.items = cc (rows.runs.ok.0, c.len-2.ensures) in
     let apart = found_apart g.T.Cell.units_of c.args.cells.now c.args.valid.now rows.runs.items (noted_units rows.notes.items) (c.args.cells.now.nrows, 0) g.met.T.Cell.same_units found in
-    let own = kept_rows g.T.Cell.units_of c.args.cells.now c.args.valid.now _ c.find_beside-on.new.self c.find_beside-on.ensures.keeps c.loop-row.invariant.ncols c.loop-row.invariant.nrows (rw (c.in_ok-push-2.ensures.items, count) (rows_built g.T.Cell.units_of c.args.cells.now c.args.valid.now rows.ncols rows.nrows rows.runs.items (noted_units rows.notes.items) rows.starts.items c.loop-row.invariant.ncols c.loop-row.invariant.nrows found starts)) found apart c.loop-row.invariant.none in
+    let own = kept_rows g.T.Cell.units_of c.args.cells.now c.args.valid.now _ c.find_beside-on.new.self c.find_beside-on.ensures.keeps c.loop-row.invariant.ncols c.loop-row.invariant.nrows (rw (c.in_ok-push-2.ensures.items, count) (rows_built g.T.Cell.units_of c.args.cells.now c.args.valid.now rows.ncols rows.nrows rows.runs.items (noted_units rows.notes.items) rows.starts.items c.loop-row.invariant.ncols c.loop-row.invariant.nrows found starts)) found apart c.loop-row.invariant.none c.find_beside-on.ensures.noted in
     own.in_order
 
 pub find_blocks-requires-clause-apart : goal.find_blocks-requires-clause-apart
@@ -59,5 +59,5 @@ returns g c =
     let starts = rw end at c.loop-row.invariant.starts in
     let count : c.len-2.result ≡ length rows.runs.items = cc (rows.runs.ok.0, c.len-2.ensures) in
     let apart = found_apart g.T.Cell.units_of c.args.cells.now c.args.valid.now rows.runs.items (noted_units rows.notes.items) (c.args.cells.now.nrows, 0) g.met.T.Cell.same_units found in
-    let own = kept_rows g.T.Cell.units_of c.args.cells.now c.args.valid.now _ c.find_beside-on.new.self c.find_beside-on.ensures.keeps c.loop-row.invariant.ncols c.loop-row.invariant.nrows (rw (c.in_ok-push-2.ensures.items, count) (rows_built g.T.Cell.units_of c.args.cells.now c.args.valid.now rows.ncols rows.nrows rows.runs.items (noted_units rows.notes.items) rows.starts.items c.loop-row.invariant.ncols c.loop-row.invariant.nrows found starts)) found apart c.loop-row.invariant.none in
-    record { ncols = own.ncols; nrows = own.nrows; in_order = own.in_order; found = own.found; blocks = c.in_ok-rows.ensures }
+    let own = kept_rows g.T.Cell.units_of c.args.cells.now c.args.valid.now _ c.find_beside-on.new.self c.find_beside-on.ensures.keeps c.loop-row.invariant.ncols c.loop-row.invariant.nrows (rw (c.in_ok-push-2.ensures.items, count) (rows_built g.T.Cell.units_of c.args.cells.now c.args.valid.now rows.ncols rows.nrows rows.runs.items (noted_units rows.notes.items) rows.starts.items c.loop-row.invariant.ncols c.loop-row.invariant.nrows found starts)) found apart c.loop-row.invariant.none c.find_beside-on.ensures.noted in
+    record { ncols = own.ncols; nrows = own.nrows; in_order = own.in_order; found = own.found; blocks = c.in_ok-rows.ensures; noted = own.noted }
