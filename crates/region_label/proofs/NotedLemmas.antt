@@ -5,7 +5,6 @@ use Rattle.std.proofs.lemmas.Bool.{cases_eq, cases_lt}
 use Rattle.std.proofs.lemmas.Option.{slice_get_within, slice_get-get_or}
 use Rattle.region_label.specs.Run.{Run}
 use Rattle.region_label.specs.declared.rows.RowRuns.{RowRuns}
-use Rattle.region_label.specs.declared.rows.RunNote.{RunNote}
 use Rattle.region_label.specs.Inner.Notes.{AreNoted, AreNotedBefore, BeginAt, IsFirstAlike, IsFirstReaching, IsNoted, Notes}
 use Rattle.region_label.specs.Inner.Rows.{AreInRows, noted_units}
 use Rattle.region_label.specs.Inner.Table.{AreInOrder, KeepsRows}

@@ -3,7 +3,7 @@ ghost use Rattle.std.specs.Prelude.{◌≡◌, ◌≢◌, ℕ, ◌+◌, ◌<◌,
 ghost use Rattle.cell_base.specs.Steps.{AreNext};
 ghost use Rattle.region_label.specs.Run.{Run};
 ghost use Rattle.region_label.specs.Inner.Table.{AreInOrder};
-ghost use Rattle.region_label.specs.Inner.Lists.{AreFilled, AreSized, Fills, HasNone, IsCleared, IsFree, IsLinkedToItself, IsNumbered, IsOf, Joins, BeginsBeside, contacts};
+ghost use Rattle.region_label.specs.Inner.Lists.{AreFilled, AreSized, BeginsBeside, Fills, HasNone, IsCleared, IsFree, IsLinkedToItself, IsNumbered, IsOf, Joins, contacts};
 ghost use Rattle.region_label.specs.Inner.Notes.{AreNoted, BeginAt};
 ghost use Rattle.region_label.specs.Inner.Rows.{noted_units};
 ghost use Rattle.region_label.specs.Inner.Blocks.{AreBeside, AreBlocksJoined, HasBlocks, IsPut, block_at, block_count};
@@ -72,8 +72,9 @@ impl RunLists {
         self.count = 0;
     }
 
-    // Adds the block of a run to a list under way, if the run touches another and has its units and the block is in no
-    // component; answers the last of the list. That it begins early enough to touch is known.
+    // Adds the block of a run to a list under way, if the run touches the one at hand and has its units, and the block is
+    // in no component; answers the last of the list. A run that begins early enough may still end too early: the first
+    // that is noted may meet at a corner alone.
     fn join<const EIGHT: bool>(
         &mut self,
         rows: &RowRuns,
@@ -107,7 +108,7 @@ impl RunLists {
         block
     }
 
-    // Adds the blocks of the runs of a neighbouring row that touch a run of their units, none of which is before a first.
+    // Adds the blocks of the runs of a neighbouring row that touch a run of their units, from the first of these on.
     fn join_row<const EIGHT: bool>(
         &mut self,
         rows: &RowRuns,

@@ -207,7 +207,7 @@ impl RowRuns {
         if self.goes_on(above, run) { on + 1 } else { on }
     }
 
-    // Writes where the runs begin that a run meets in the rows beside it.
+    // Writes the first runs that are alike in the row above, and in the row below.
     fn note(&mut self, run: u32, above: u32, below: u32)
         requires { run < length self.old.notes.items }
         ensures keeps { KeepsRows self.old self.new }
@@ -219,8 +219,8 @@ impl RowRuns {
         self.notes[run as usize] = note;
     }
 
-    // Notes where the runs begin that the runs of a row meet in the rows beside it. Beyond the first and the last row
-    // there are none, and the row stands for the one that isn't there. Answers how many runs go on so far.
+    // Notes, for each run of a row, the first runs that are alike in the row above, and in the row below. Where there is
+    // no such row, the row itself stands for it. Answers how many runs go on so far.
     fn note_row(&mut self, row: u32, on: usize) -> usize
         requires ordered { AreInOrder self.old }
         requires row { row < self.old.nrows }

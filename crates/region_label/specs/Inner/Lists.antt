@@ -1,5 +1,5 @@
 -- The runs of each component as a linked list, and how far a fill has come.
-use Rattle.std.specs.Prelude.{◌≡◌, ◌≢◌, ℕ, ◌+◌, ◌<◌, ◌≤◌, ◌⊎◌, ℤ, Bool, List, ◌++◌, Option, Some, None, AllPairs, Contains, length, replicate, slice_get, if◌then◌else◌}
+use Rattle.std.specs.Prelude.{◌≡◌, ◌≢◌, ℕ, ◌+◌, ◌<◌, ◌≤◌, ◌⊎◌, ℤ, Bool, List, ◌++◌, Option, Some, None, AllPairs, Contains, length, replicate, slice_get}
 use Rattle.cell_base.specs.Steps.{AreNext, step_reach}
 use Rattle.cell_base.specs.Walk.{IsWalk}
 use Rattle.region_label.specs.Run.{Run}

@@ -39,10 +39,10 @@ returns-clause-joins g c =
     let first : slice_get rows.runs.items c.args.at ≡ Some c.index-4.result.now = slice_get-get_or rows.runs.items c.args.at c.index-4.result.now c.requires.at ∙ ap (λ (r : Run). Some r) (sym c.index-4.ensures) in
     let second : slice_get rows.runs.items c.args.run ≡ Some c.index-3.result.now = slice_get-get_or rows.runs.items c.args.run c.index-3.result.now c.requires.run ∙ ap (λ (r : Run). Some r) (sym c.index-3.ensures) in
     let touches : (a b : Run) → slice_get rows.runs.items c.args.at ≡ Some a → slice_get rows.runs.items c.args.run ≡ Some b → Touches (not (nat_eq (value_of (number g.row.EIGHT)) 0)) a b = λ a b at_a at_b.
-        let from : c.index-4.result.now.from ≡ a.from = ap (λ (r : Run). r.from) (same_Some c.index-4.result.now a (sym first ∙ at_a)) in
-        let to : c.index-3.result.now.to ≡ b.to = ap (λ (r : Run). r.to) (same_Some c.index-3.result.now b (sym second ∙ at_b)) in
-        let near = c.requires.beside a b at_a at_b in
-        (near.0, omega (arith, c.if-index-reach.false, c.reach.ensures, from, to), near.1) in
+    let from : c.index-4.result.now.from ≡ a.from = ap (λ (r : Run). r.from) (same_Some c.index-4.result.now a (sym first ∙ at_a)) in
+    let to : c.index-3.result.now.to ≡ b.to = ap (λ (r : Run). r.to) (same_Some c.index-3.result.now b (sym second ∙ at_b)) in
+    let near = c.requires.beside a b at_a at_b in
+    (near.0, omega (arith, c.if-index-reach.false, c.reach.ensures, from, to), near.1) in
     let contact = contact_of _ rows.runs.items (noted_units rows.notes.items) c.args.at c.args.run c.index-2.result.now.units c.index.result.now.units c.requires.at c.requires.run at_at at_run (omega (arith, ints, c.if-index.false)) touches in
     joins_one _ (block_at rows c.args.at) c.args.number c.args.self.now _ c.args.last c.block_of-block.result (omega (arith, within, c.requires.sized.links)) (beside_to _ rows c.args.at c.args.run c.block_of-block.result is contact) free refl refl refl refl
 
