@@ -72,9 +72,9 @@ impl RunLists {
         self.count = 0;
     }
 
-    // Adds the block of a run to a list under way, if the run touches the one at hand and has its units, and the block is
-    // in no component; answers the last of the list. A run that begins early enough may still end too early: the first
-    // that is noted may meet at a corner alone.
+    // Adds the block of a run to a list under way, if the run touches the one at hand and has its units, and the block
+    // is in no component; answers the last of the list. A run that begins early enough may still end too early: the
+    // first that is noted may meet at a corner alone.
     fn join<const EIGHT: bool>(
         &mut self,
         rows: &RowRuns,

@@ -156,7 +156,7 @@ impl RowRuns {
         at
     }
 
-    // The first run of a row, from an index on, that begins no later than a run ends, and has its units; or else the end
+    // The first run of a row, from an index on, that begins no later than a run ends and has its units; or else the end
     // of the row's runs.
     fn first_alike(&self, row: u32, run: u32, from: u32) -> u32
         requires ordered { AreInOrder self.now }
@@ -219,8 +219,8 @@ impl RowRuns {
         self.notes[run as usize] = note;
     }
 
-    // Notes, for each run of a row, the first runs that are alike in the row above, and in the row below. Where there is
-    // no such row, the row itself stands for it. Answers how many runs go on so far.
+    // Notes, for each run of a row, the first runs that are alike in the row above, and in the row below. Where there
+    // is no such row, the row itself stands for it. Answers how many runs go on so far.
     fn note_row(&mut self, row: u32, on: usize) -> usize
         requires ordered { AreInOrder self.old }
         requires row { row < self.old.nrows }

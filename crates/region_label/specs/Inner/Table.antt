@@ -71,7 +71,8 @@ pub record IsOnList (runs : ℕ) (links : List ℕ) (at : ℕ) : Type 0 where
   pub at_index : slice_get list index ≡ Some at
   pub below : (i : ℕ) → Contains list i → i < runs
 
--- the runs are in order and noted, and each component has a linked list; with no components the lists are as a fill begins
+-- the runs are in order and noted, and each component has a linked list; with no components the lists are as a fill
+-- begins
 pub record IsTable (rows : RowRuns) (lists : RunLists) : Type 0 where
   pub order : AreInOrder rows
   pub blocks : HasBlocks rows
