@@ -5,7 +5,7 @@ use Rattle.std.specs.List.{flat_map, zip}
 use Rattle.std.proofs.lemmas.Grind.{common_steps}
 use Rattle.std.proofs.lemmas.List.{length-map, map-append}
 use Rattle.std.proofs.lemmas.List.FromFn.{length-map-range_with_len}
-use Rattle.std.proofs.lemmas.List.Elements.{All-from_get_or, All-get_or, All-map}
+use Rattle.std.proofs.lemmas.List.Elements.{All-from_get_or, All-get_or}
 use Rattle.std.proofs.lemmas.Option.{gets, get_or_from_slice_get, none-some, same_Some, slice_get-get_or, slice_get-map, slice_get_within, unwrap_or-slice_get}
 use Rattle.cell_base.specs.Raster.{Raster}
 use Rattle.cell_base.specs.Steps.{eight, four}
@@ -18,13 +18,10 @@ use Rattle.ring_faces.specs.LatticePolygon.{Polygon, rings_of}
 use Rattle.ring_faces.specs.Ring.{Ring}
 use Rattle.ring_faces.specs.Faces.{ArePolygonsOf, FitsGrid}
 use Rattle.ring_faces.proofs.FitLemmas.{fits_grid}
-use Rattle.wkt_text.specs.Geometry.{IsPolygon}
-use Rattle.wkt_text.specs.declared.geometry.Pt.{Pt}
 use Rattle.ogr_csv.specs.Rows.{line_of}
-use Rattle.tool_outcome.proofs.WrittenLemmas.{closed_paths}
 use Rattle.tool_outcome.specs.Polygonize.{paths_of, row_of, shape_of, value_of}
 use Rattle.wkt_text.specs.declared.geometry.Geometry.TheVariants as geometry
-use Rattle.tool_run.specs.Inner.Layer.{HasShape, components_in, rows_left}
+use Rattle.tool_run.specs.Inner.Layer.{HasShape, components_in, part_shape, parts_shape, rows_left}
 use Rattle.tool_run.specs.Inner.Rows.{AreAmong, AreComponents, AreRowsOver, AreTraced, polygon_at, shapes_of}
 use Rattle.tool_outcome.specs.Sieve.{IsMaskOf}
 use Rattle.tool_run.specs.Inner.Steps.{IsOverFrame}
@@ -48,15 +45,6 @@ take_more xs i x is = grind (arith, common_steps, gets, is)
 
 pub map_more : {A B : Type 0} (f : A → B) (xs : List A) (i : ℕ) (x : A) → slice_get xs i ≡ Some x → map f (take (i + 1) xs) ≡ map f (take i xs) ++ f x ∷ []
 map_more f xs i x is = ap (map f) (take_more xs i x is) ∙ map-append f (take i xs) (x ∷ [])
-
--- the first member again at the end
-pub closes : {A B : Type 0} (f : A → B) (xs : List A) (x : A) → slice_get xs 0 ≡ Some x → map f xs ++ f x ∷ [] ≡ map f (xs ++ take 1 xs)
-closes f [] x is = absurd (none-some x is)
-closes f (y ∷ ys) x is = ap (λ z. map f (y ∷ ys) ++ f z ∷ []) (sym (same_Some y x is)) ∙ sym (map-append f (y ∷ ys) (y ∷ []))
-
-pub closes_none : {A B : Type 0} (f : A → B) (xs : List A) → slice_get xs 0 ≡ None → map f xs ≡ map f (xs ++ take 1 xs)
-closes_none f [] is = refl
-closes_none f (y ∷ ys) is = absurd (none-some y (sym is))
 
 -- a member, and the members behind it
 pub drop_at : {A : Type 0} (xs : List A) (i : ℕ) (x : A) → slice_get xs i ≡ Some x → drop i xs ≡ x ∷ drop (i + 1) xs
@@ -93,16 +81,6 @@ rings_at polygons j rings within is =
     let at : slice_get polygons j ≡ Some (get_or polygons j none) = slice_get-get_or polygons j none within in
     let same = same_Some rings (rings_of (get_or polygons j none)) (sym is ∙ ap (option_map rings_of) at) in
     same ∙ ap (λ (polygon : Option Polygon). rings_of (unwrap_or polygon none)) (sym at)
-
--- the polygons of numbers can be written
-pub closed_polygons : (frame : Frame) (polygons : List Polygon) (numbers : List ℕ) → All (FitsGrid frame.nrows frame.ncols) polygons → All (λ j. j < length polygons) numbers → All IsPolygon (map (λ j. paths_of frame (polygon_at polygons j)) numbers)
-closed_polygons frame polygons numbers fit among =
-    All-map IsPolygon (λ j. paths_of frame (polygon_at polygons j)) numbers (λ i d within.
-    let j = get_or numbers i d in
-    record {
-      some = grind (arith, common_steps);
-      each = closed_paths frame (polygon_at polygons j) (fit_at frame polygons j fit (among i d within));
-    })
 
 -- the values and shapes of a grid's components fit its frame
 pub rows_over : (connectivity : Bool) (asc : Asc ℤ) (valid : Raster Bool) (sides : RegionTable) (values : List ℤ) (parts : Option (List (List ℕ))) (polygons : List Polygon) → IsOverFrame asc → IsLabelling four asc.cells valid sides → ArePolygonsOf sides polygons → AreComponents connectivity asc.cells valid sides values parts → AreRowsOver asc.frame values parts polygons
@@ -185,15 +163,15 @@ own_number layer k none sized within =
     let alone : shapes_of layer.parts layer.faces ≡ map (λ polygon. polygon ∷ []) layer.faces = ap (λ parts. shapes_of parts layer.faces) none in
     omega (arith, within, sized, ap length alone, length-map layer.faces (λ polygon. polygon ∷ []))
 
-pub own_shape : (layer : Layer) (k : ℕ) (rings : List (List Pt)) → layer.parts ≡ None → length layer.values.items ≡ length (shapes_of layer.parts layer.faces) → k < length layer.values.items → rings ≡ paths_of layer.frame (polygon_at layer.faces k) → HasShape layer k (geometry.Polygon rings)
-own_shape layer k rings none sized within are =
+pub own_shape : (layer : Layer) (k : ℕ) → layer.parts ≡ None → length layer.values.items ≡ length (shapes_of layer.parts layer.faces) → k < length layer.values.items → HasShape layer k (part_shape layer k)
+own_shape layer k none sized within =
     let alone : shapes_of layer.parts layer.faces ≡ map (λ polygon. polygon ∷ []) layer.faces = ap (λ parts. shapes_of parts layer.faces) none in
     let long = own_number layer k none sized within in
     let d : Polygon = record { shell = []; holes = [] } in
     let at : slice_get layer.faces k ≡ Some (polygon_at layer.faces k) = some_at layer.faces k d long ∙ ap Some (sym (unwrap_or-slice_get layer.faces k d)) in (
       polygon_at layer.faces k ∷ [],
       ap (λ shapes. slice_get shapes k) alone ∙ slice_get-map (λ polygon. polygon ∷ []) layer.faces k ∙ ap (option_map (λ polygon. polygon ∷ [])) at,
-      ap geometry.Polygon are,
+      refl,
     )
 
 shapes_at : (layer : Layer) (k : ℕ) (lists : List (List ℕ)) (numbers : List ℕ) → layer.parts ≡ Some lists → slice_get lists k ≡ Some numbers → slice_get (shapes_of layer.parts layer.faces) k ≡ Some (map (polygon_at layer.faces) numbers)
@@ -207,23 +185,23 @@ one_number [] long = absurd (omega (arith, long))
 one_number (j ∷ []) long = refl
 one_number (j ∷ i ∷ numbers) long = absurd (omega (arith, long))
 
-pub one_shape : (layer : Layer) (k j : ℕ) (rings : List (List Pt)) (lists : List (List ℕ)) (numbers : List ℕ) → layer.parts ≡ Some lists → slice_get lists k ≡ Some numbers → length numbers ≡ 1 → j ≡ get_or numbers 0 0 → rings ≡ paths_of layer.frame (polygon_at layer.faces j) → HasShape layer k (geometry.Polygon rings)
-one_shape layer k j rings lists numbers some at long is are = (
+pub one_shape : (layer : Layer) (k j : ℕ) (lists : List (List ℕ)) (numbers : List ℕ) → layer.parts ≡ Some lists → slice_get lists k ≡ Some numbers → length numbers ≡ 1 → j ≡ get_or numbers 0 0 → HasShape layer k (part_shape layer j)
+one_shape layer k j lists numbers some at long is = (
   polygon_at layer.faces j ∷ [],
   shapes_at layer k lists numbers some at ∙ ap (λ (ns : List ℕ). Some (map (polygon_at layer.faces) ns)) (one_number numbers long ∙ ap (λ (n : ℕ). n ∷ []) (sym is)),
-  ap geometry.Polygon are,
+  refl,
 )
 
-many_parts : (layer : Layer) (numbers : List ℕ) → length numbers ≢ 1 → shape_of layer.frame (map (polygon_at layer.faces) numbers) ≡ geometry.MultiPolygon (map (λ j. paths_of layer.frame (polygon_at layer.faces j)) numbers)
+many_parts : (layer : Layer) (numbers : List ℕ) → length numbers ≢ 1 → shape_of layer.frame (map (polygon_at layer.faces) numbers) ≡ parts_shape layer numbers
 many_parts layer [] long = refl
 many_parts layer (j ∷ []) long = absurd (long refl)
 many_parts layer (j ∷ i ∷ numbers) long = ap geometry.MultiPolygon (maps_by (paths_of layer.frame) (polygon_at layer.faces) (λ n. paths_of layer.frame (polygon_at layer.faces n)) (j ∷ i ∷ numbers) (λ n. refl))
 
-pub many_shape : (layer : Layer) (k : ℕ) (polygons : List (List (List Pt))) (lists : List (List ℕ)) (numbers : List ℕ) → layer.parts ≡ Some lists → slice_get lists k ≡ Some numbers → length numbers ≢ 1 → polygons ≡ map (λ j. paths_of layer.frame (polygon_at layer.faces j)) numbers → HasShape layer k (geometry.MultiPolygon polygons)
-many_shape layer k polygons lists numbers some at long are = (
+pub many_shape : (layer : Layer) (k : ℕ) (lists : List (List ℕ)) (numbers : List ℕ) → layer.parts ≡ Some lists → slice_get lists k ≡ Some numbers → length numbers ≢ 1 → HasShape layer k (parts_shape layer numbers)
+many_shape layer k lists numbers some at long = (
   map (polygon_at layer.faces) numbers,
   shapes_at layer k lists numbers some at,
-  ap geometry.MultiPolygon are ∙ sym (many_parts layer numbers long),
+  sym (many_parts layer numbers long),
 )
 
 -- the parts of a component are numbers of polygons

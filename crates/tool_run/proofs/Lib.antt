@@ -4,6 +4,7 @@ pub mod SieveLemmas
 pub mod SourceLemmas
 pub mod RunLemmas
 pub mod LayerLemmas
+pub mod ShapeTextLemmas
 pub mod PolygonizeLemmas
 pub mod RangeLemmas
 pub mod IntervalLemmas

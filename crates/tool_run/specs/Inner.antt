@@ -1,5 +1,6 @@
 pub mod Steps
 pub mod Rows
+pub mod CornerTexts
 pub mod Layer
 pub mod Contours
 pub mod Ranges

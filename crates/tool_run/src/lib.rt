@@ -9,6 +9,7 @@ mod burned_cells;
 mod burning;
 mod check;
 mod contours;
+mod corner_texts;
 mod drawing;
 mod grid_file;
 mod jobs;
@@ -19,6 +20,7 @@ mod message;
 mod pieces;
 mod polygons;
 mod program;
+mod shape_text;
 mod sieve;
 
 pub use burning::rasterize;

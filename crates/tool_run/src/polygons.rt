@@ -4,37 +4,36 @@ ghost use Rattle.std.specs.List.{zip};
 ghost use Rattle.cell_base.specs.Raster.{Raster};
 ghost use Rattle.cell_base.specs.Steps.{four};
 ghost use Rattle.fixed_coord.specs.Shortest.{shortest};
-ghost use Rattle.geo_transform.specs.Frame.{IsFrame};
 ghost use Rattle.region_label.specs.Labelling.{IsLabelling};
-ghost use Rattle.ring_faces.specs.Faces.{AreJoinedBySides, ArePolygonsOf, FitsGrid, IsCornerOf};
-ghost use Rattle.ring_faces.specs.Ring.{points_of};
+ghost use Rattle.ring_faces.specs.Faces.{AreJoinedBySides, ArePolygonsOf, FitsGrid};
 ghost use Rattle.ogr_csv.specs.Rows.{line_of};
 ghost use Rattle.tool_outcome.specs.Outcome.{CanBeDone, Does, LeavesPart};
-ghost use Rattle.tool_outcome.specs.Polygonize.{header_row, path_of, paths_of, point_of, row_of, value_of};
+ghost use Rattle.tool_outcome.specs.Polygonize.{header_row, paths_of, row_of, value_of};
 ghost use Rattle.tool_outcome.specs.Status.{IsDecided, status_of};
 ghost use Rattle.tool_run.specs.Causes.{HasCauses, IsToolFault};
 ghost use Rattle.tool_run.specs.Inner.Rows.{AreComponents, AreRowsOver, AreTraced, polygon_at};
-ghost use Rattle.tool_run.specs.Inner.Layer.{HasRow, HasShape, HasShapeText, layer_left, rows_left};
-ghost use Rattle.wkt_text.specs.Geometry.{IsWritable};
+ghost use Rattle.tool_run.specs.Inner.Layer.{HasRow, HasShapeText, layer_left, part_shape, parts_shape, rows_left};
+ghost use Rattle.wkt_text.specs.Spelling.{list_text, polygon_text, wkt};
 ghost use Rattle.rv_outside.specs.Files.{Becomes, with_file};
 ghost use Rattle.rv_outside.specs.Folder.{OnlyWrites};
 ghost use Rattle.tool_run.specs.Inner.Steps.{IsOverFrame, IsPartWritten, IsWriteFault};
 
+use crate::corner_texts::CornerTexts;
 use crate::grid_file::read_source;
 use crate::pieces::{Pieces, write_text};
+use crate::shape_text::write_polygon;
 use asc_grid::Asc;
 use cell_base::{Cell, Grid, Mask};
-use edge_trace::{Corner, EdgeTable};
+use edge_trace::EdgeTable;
 use geo_transform::Frame;
 use ogr_csv::RowsText;
 use region_label::{Regions, label};
 use region_parts::Parts;
-use ring_faces::{Faces, RingWalk};
+use ring_faces::Faces;
 use rv_outside::Folder;
 use std::alloc::{AllocError, Global};
 use tool_outcome::{Fault, Status};
 use tool_words::{Job, PolygonizeJob};
-use wkt_text::{Geometry, Path, Polygons, Pt, Rings, write_geometry};
 
 // The components that have a row each: the value of each, and, where cells meet at corners too, its parts under side steps.
 #[derive(Drop)]
@@ -125,47 +124,6 @@ fn layer_of(alloc: Global, asc: Asc<i64>, eight: bool) -> Result<Layer, AllocErr
     })
 }
 
-// The point of a corner.
-fn point_of(frame: &Frame, corner: Corner) -> Pt
-    requires frame { IsFrame frame.now }
-    requires corner { IsCornerOf frame.now.nrows frame.now.ncols (corner.row, corner.col) }
-    ensures { result ≡ point_of frame.now (corner.row, corner.col) }
-{
-    let (x, y) = frame.corner(corner.row, corner.col);
-    Pt { x, y }
-}
-
-// The points of a ring, the first again at the end.
-fn path_of(alloc: Global, frame: &Frame, ring: &[Corner]) -> Result<Path, AllocError>
-    requires frame { IsFrame frame.now }
-    requires corners { All (IsCornerOf frame.now.nrows frame.now.ncols) (points_of ring.now) }
-    ensures { IfOk result (λ path. path ≡ path_of frame.now (points_of ring.now)) }
-{
-    let mut path = Path::with_capacity(alloc, ring.len().saturating_add(1))?;
-    'corners: for corner in ring {
-        path.push(point_of(frame, *corner))?;
-    }
-    let Some(first) = ring.first() else {
-        return Ok(path);
-    };
-    path.push(point_of(frame, *first))?;
-    Ok(path)
-}
-
-// The points of rings.
-fn paths_of(alloc: Global, frame: &Frame, rings: RingWalk<'_>) -> Result<Rings, AllocError>
-    requires frame { IsFrame frame.now }
-    requires corners { All (All (IsCornerOf frame.now.nrows frame.now.ncols)) rings }
-    ensures { IfOk result (λ paths. paths ≡ map (path_of frame.now) rings.entry) }
-{
-    let mut paths = Rings::new(alloc);
-    for corners in rings {
-        let path = path_of(alloc, frame, corners)?;
-        paths.push(path)?;
-    }
-    Ok(paths)
-}
-
 // Puts the text of a value in the place of another text.
 fn put_number(value: i64, text: &mut Vec<u8>) -> Result<(), AllocError>
     ensures { OnOk result (text.new.items ≡ shortest value 0) }
@@ -175,11 +133,13 @@ fn put_number(value: i64, text: &mut Vec<u8>) -> Result<(), AllocError>
     Ok(())
 }
 
-// The two fields of a component's row. Each row of a piece takes the place of the one before, so that they seldom grow.
+// The two fields of a component's row, and the numbers of its parts. Each row of a piece takes the place of the one
+// before, so that they seldom grow.
 #[derive(Drop)]
 struct Row {
     wkt: Vec<u8>,
     value: Vec<u8>,
+    parts: Vec<u32>,
 }
 
 impl Row {
@@ -187,76 +147,127 @@ impl Row {
         Row {
             wkt: Vec::new(alloc),
             value: Vec::new(alloc),
+            parts: Vec::new(alloc),
         }
     }
 }
 
 impl Layer {
-    // The rings of the polygon of this number.
-    fn rings(&self, alloc: Global, j: u32) -> Result<Rings, AllocError>
-        requires frame { IsFrame self.now.frame }
+    // Appends the polygon of this number.
+    fn write_part(
+        &self,
+        j: u32,
+        texts: &mut CornerTexts,
+        out: &mut Vec<u8>,
+    ) -> Result<(), AllocError>
         requires fit { All (FitsGrid self.now.frame.nrows self.now.frame.ncols) self.now.faces }
         requires j { j < length self.now.faces }
-        ensures { IfOk result (λ rings. rings ≡ paths_of self.now.frame (polygon_at self.now.faces j)) }
+        requires frame { texts.old.frame ≡ self.now.frame }
+        ensures text { OnOk result (out.new.items ≡ out.old.items ++ polygon_text (paths_of self.now.frame (polygon_at self.now.faces j))) }
+        ensures frame { texts.new.frame ≡ texts.old.frame }
     {
-        let rings = paths_of(alloc, &self.frame, self.faces.rings(j))?;
-        Ok(rings)
+        write_polygon(texts, self.faces.rings(j), out)
     }
 
-    // The polygons of a component's parts.
-    fn polygons(&self, alloc: Global, parts: &[u32]) -> Result<Polygons, AllocError>
-        requires frame { IsFrame self.now.frame }
+    // Appends the polygons of parts.
+    fn write_parts(
+        &self,
+        parts: &[u32],
+        texts: &mut CornerTexts,
+        out: &mut Vec<u8>,
+    ) -> Result<(), AllocError>
         requires fit { All (FitsGrid self.now.frame.nrows self.now.frame.ncols) self.now.faces }
+        requires some { 0 < length parts.now }
         requires parts { All (λ j. j < length self.now.faces) parts.now }
-        ensures { IfOk result (λ polygons. polygons ≡ map (λ j. paths_of self.now.frame (polygon_at self.now.faces j)) parts.now) }
+        requires frame { texts.old.frame ≡ self.now.frame }
+        ensures text { OnOk result (out.new.items ≡ out.old.items
+            ++ list_text polygon_text (map (λ j. paths_of self.now.frame (polygon_at self.now.faces j)) parts.now)) }
+        ensures frame { texts.new.frame ≡ texts.old.frame }
     {
-        let mut polygons = Polygons::new(alloc);
+        let mut mark = b'(';
         'parts: for part in parts {
-            polygons.push(self.rings(alloc, *part)?)?;
+            out.push(mark)?;
+            self.write_part(*part, texts, out)?;
+            mark = b',';
         }
-        Ok(polygons)
-    }
-
-    // The shape of a component.
-    fn shape(&self, alloc: Global, k: u32) -> Result<Geometry, AllocError>
-        requires rows { AreRowsOver self.now.frame self.now.values.items self.now.parts self.now.faces }
-        requires k { k < length self.now.values.items }
-        ensures shape { IfOk result (HasShape self.now k) }
-        ensures writable { IfOk result IsWritable }
-    {
-        let Some(parts) = &self.parts else {
-            let rings = self.rings(alloc, k)?;
-            return Ok(Geometry::Polygon(rings));
-        };
-        let mut numbers = Vec::new(alloc);
-        parts.list(k, &mut numbers)?;
-        if numbers.len() == 1 {
-            let rings = self.rings(alloc, numbers[0])?;
-            return Ok(Geometry::Polygon(rings));
-        }
-        let polygons = self.polygons(alloc, &numbers)?;
-        Ok(Geometry::MultiPolygon(polygons))
-    }
-
-    // Puts the text of the shape of a component in the place of another text.
-    fn put_shape(&self, alloc: Global, k: u32, text: &mut Vec<u8>) -> Result<(), AllocError>
-        requires rows { AreRowsOver self.now.frame self.now.values.items self.now.parts self.now.faces }
-        requires k { k < length self.now.values.items }
-        ensures { OnOk result (HasShapeText self.now k text.new.items) }
-    {
-        let shape = self.shape(alloc, k)?;
-        text.clear();
-        write_geometry(&shape, text)?;
+        out.push(b')')?;
         Ok(())
     }
 
-    // Puts the fields of the row of a component in the place of another row's.
-    fn put_row(&self, alloc: Global, k: u32, row: &mut Row) -> Result<(), AllocError>
+    // Puts the text of a shape of one part in the place of another text.
+    fn put_polygon(
+        &self,
+        j: u32,
+        texts: &mut CornerTexts,
+        text: &mut Vec<u8>,
+    ) -> Result<(), AllocError>
+        requires fit { All (FitsGrid self.now.frame.nrows self.now.frame.ncols) self.now.faces }
+        requires j { j < length self.now.faces }
+        requires frame { texts.old.frame ≡ self.now.frame }
+        ensures text { OnOk result (text.new.items ≡ wkt (part_shape self.now j)) }
+        ensures frame { texts.new.frame ≡ texts.old.frame }
+    {
+        text.clear();
+        text.extend_from_slice(b"POLYGON ")?;
+        self.write_part(j, texts, text)
+    }
+
+    // Puts the text of a shape of several parts in the place of another text.
+    fn put_multipolygon(
+        &self,
+        parts: &[u32],
+        texts: &mut CornerTexts,
+        text: &mut Vec<u8>,
+    ) -> Result<(), AllocError>
+        requires fit { All (FitsGrid self.now.frame.nrows self.now.frame.ncols) self.now.faces }
+        requires parts { All (λ j. j < length self.now.faces) parts.now }
+        requires frame { texts.old.frame ≡ self.now.frame }
+        ensures text { OnOk result (text.new.items ≡ wkt (parts_shape self.now parts.now)) }
+        ensures frame { texts.new.frame ≡ texts.old.frame }
+    {
+        text.clear();
+        text.extend_from_slice(b"MULTIPOLYGON ")?;
+        if parts.is_empty() {
+            text.extend_from_slice(b"EMPTY")?;
+            return Ok(());
+        }
+        self.write_parts(parts, texts, text)
+    }
+
+    // Puts the text of the shape of a component in the place of another text, and the numbers of its parts in the place
+    // of others.
+    fn put_shape(
+        &self,
+        k: u32,
+        texts: &mut CornerTexts,
+        numbers: &mut Vec<u32>,
+        text: &mut Vec<u8>,
+    ) -> Result<(), AllocError>
         requires rows { AreRowsOver self.now.frame self.now.values.items self.now.parts self.now.faces }
         requires k { k < length self.now.values.items }
-        ensures { OnOk result (HasRow self.now k row.new.wkt.items row.new.value.items) }
+        requires frame { texts.old.frame ≡ self.now.frame }
+        ensures text { OnOk result (HasShapeText self.now k text.new.items) }
+        ensures frame { texts.new.frame ≡ texts.old.frame }
     {
-        self.put_shape(alloc, k, &mut row.wkt)?;
+        let Some(parts) = &self.parts else {
+            return self.put_polygon(k, texts, text);
+        };
+        parts.list(k, numbers)?;
+        if numbers.len() == 1 {
+            return self.put_polygon(numbers[0], texts, text);
+        }
+        self.put_multipolygon(numbers, texts, text)
+    }
+
+    // Puts the fields of the row of a component in the place of another row's.
+    fn put_row(&self, k: u32, texts: &mut CornerTexts, row: &mut Row) -> Result<(), AllocError>
+        requires rows { AreRowsOver self.now.frame self.now.values.items self.now.parts self.now.faces }
+        requires k { k < length self.now.values.items }
+        requires frame { texts.old.frame ≡ self.now.frame }
+        ensures row { OnOk result (HasRow self.now k row.new.wkt.items row.new.value.items) }
+        ensures frame { texts.new.frame ≡ texts.old.frame }
+    {
+        self.put_shape(k, texts, &mut row.parts, &mut row.wkt)?;
         put_number(self.values[k as usize], &mut row.value)?;
         Ok(())
     }
@@ -264,31 +275,41 @@ impl Layer {
     // Adds the row of a component.
     fn add_row(
         &self,
-        alloc: Global,
         k: u32,
+        texts: &mut CornerTexts,
         row: &mut Row,
         rows: &mut RowsText,
     ) -> Result<(), AllocError>
         requires rows { AreRowsOver self.now.frame self.now.values.items self.now.parts self.now.faces }
         requires k { k < length self.now.values.items }
-        ensures { OnOk result (rows.old ++ rows_left self.now k ≡ rows.new ++ rows_left self.now (k + 1)) }
+        requires frame { texts.old.frame ≡ self.now.frame }
+        ensures rows { OnOk result (rows.old ++ rows_left self.now k ≡ rows.new ++ rows_left self.now (k + 1)) }
+        ensures frame { texts.new.frame ≡ texts.old.frame }
     {
-        self.put_row(alloc, k, row)?;
+        self.put_row(k, texts, row)?;
         rows.add(&[row.wkt.as_slice(), row.value.as_slice()])?;
         Ok(())
     }
 
     // Adds the rows from one on until the text is long, and says where it stopped; at least one, where there is one.
-    fn add_rows(&self, alloc: Global, from: u32, rows: &mut RowsText) -> Result<u32, AllocError>
+    fn add_rows(
+        &self,
+        alloc: Global,
+        from: u32,
+        texts: &mut CornerTexts,
+        rows: &mut RowsText,
+    ) -> Result<u32, AllocError>
         requires rows { AreRowsOver self.now.frame self.now.values.items self.now.parts self.now.faces }
         requires from { from ≤ length self.now.values.items }
+        requires frame { texts.old.frame ≡ self.now.frame }
         ensures further { IfOk result (λ next. (from < length self.now.values.items → from < next) × (from ≤ next) × (next ≤ length self.now.values.items)) }
         ensures rows { IfOk result (λ next. rows.old ++ rows_left self.now from ≡ rows.new ++ rows_left self.now next) }
+        ensures frame { texts.new.frame ≡ texts.old.frame }
     {
         let mut row = Row::new(alloc);
         let mut k = from;
         'rows: while (k as usize) < self.values.len() {
-            self.add_row(alloc, k, &mut row, rows)?;
+            self.add_row(k, texts, &mut row, rows)?;
             k += 1;
             if rows.is_long() {
                 return Ok(k);
@@ -298,14 +319,16 @@ impl Layer {
     }
 }
 
-// The text of a layer, handed out in pieces of whole rows.
+// The text of a layer, handed out in pieces of whole rows. The texts of its corners are kept over all of them.
 #[derive(Drop)]
 struct LayerText<'a> {
     alloc: Global,
     field: &'a str,
     layer: &'a Layer,
+    texts: CornerTexts,
     has_header: bool,
     next: u32,
+    ghost frame: { texts.frame ≡ layer.now.frame },
     ghost within: { next ≤ length layer.now.values.items },
     ghost rows: { AreRowsOver layer.now.frame layer.now.values.items layer.now.parts layer.now.faces },
 }
@@ -327,7 +350,9 @@ impl<'a> Pieces for LayerText<'a> {
         if self.has_header {
             rows.add(&[b"WKT", self.field.as_bytes()])?;
         }
-        let next = self.layer.add_rows(self.alloc, self.next, &mut rows)?;
+        let next = self
+            .layer
+            .add_rows(self.alloc, self.next, &mut self.texts, &mut rows)?;
         *piece = rows.into_text()?;
         self.has_header = false;
         self.next = next;
@@ -349,10 +374,12 @@ fn write_layer<F: Folder>(
     ensures kind { IfErr result IsWriteFault }
     ensures leaves { OnlyWrites (IsErrOf result Fault.WriteFault) (F.state folder.old) (F.state folder.new) }
 {
+    let texts = CornerTexts::of(alloc, layer.frame)?;
     let mut text = LayerText {
         alloc,
         field,
         layer,
+        texts,
         has_header: true,
         next: 0,
     };

@@ -4,11 +4,12 @@ use Rattle.std.specs.List.{flat_map, zip}
 use Rattle.ring_faces.specs.LatticePolygon.{Polygon}
 use Rattle.wkt_text.specs.Spelling.{wkt}
 use Rattle.wkt_text.specs.declared.geometry.Geometry.{Geometry}
+use Rattle.wkt_text.specs.declared.geometry.Geometry.TheVariants as geometry
 use Rattle.ogr_csv.specs.Rows.{line_of}
 use Rattle.tool_words.specs.Words.{Text}
 use Rattle.tool_run.specs.declared.polygons.Layer.{Layer}
-use Rattle.tool_run.specs.Inner.Rows.{shapes_of}
-use Rattle.tool_outcome.specs.Polygonize.{header_row, row_of, shape_of}
+use Rattle.tool_run.specs.Inner.Rows.{polygon_at, shapes_of}
+use Rattle.tool_outcome.specs.Polygonize.{header_row, paths_of, row_of, shape_of}
 
 -- the values and shapes of a layer's components
 abbrev pub components_in : Layer → List (ℤ × List Polygon)
@@ -18,6 +19,13 @@ components_in layer = zip layer.values.items (shapes_of layer.parts layer.faces)
 abbrev pub HasShape : Layer → ℕ → Geometry → Type 0
 HasShape layer k shape = (parts : List Polygon) × (slice_get (shapes_of layer.parts layer.faces) k ≡ Some parts)
     × (shape ≡ shape_of layer.frame parts)
+
+-- the shape of the polygon of this number, and that of the polygons of several
+abbrev pub part_shape : Layer → ℕ → Geometry
+part_shape layer j = geometry.Polygon (paths_of layer.frame (polygon_at layer.faces j))
+
+abbrev pub parts_shape : Layer → List ℕ → Geometry
+parts_shape layer numbers = geometry.MultiPolygon (map (λ j. paths_of layer.frame (polygon_at layer.faces j)) numbers)
 
 -- its text
 abbrev pub HasShapeText : Layer → ℕ → List ℕ → Type 0

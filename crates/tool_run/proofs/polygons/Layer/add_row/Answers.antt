@@ -5,10 +5,10 @@ use Rattle.tool_run.specs.Inner.Layer.{components_in, rows_left}
 use Rattle.tool_run.proofs.LayerLemmas.{row_and_rest}
 use Rattle.tool_run.proofs.polygons.Layer.add_row.Goals as goal
 
-pub returns : goal.returns
-returns c =
+pub returns-clause-rows : goal.returns-clause-rows
+returns-clause-rows c =
     let layer = c.args.self.now in
-    let row = c.in_ok-put_row.ensures in
+    let row = c.in_ok-put_row.ensures.row in
     let fields =
     ap (λ wkt. wkt ∷ c.as_slice-2.result.now ∷ []) c.as_slice.ensures.value
     ∙ ap (λ value. c.put_row.new.row.wkt.items ∷ value ∷ []) c.as_slice-2.ensures.value

@@ -5,6 +5,7 @@ use Rattle.tool_run.proofs.polygons.Layer.add_rows.Given as goal
 -- the rows so far were added
 abbrev pub invariant-rows : goal.invariant-rows
 invariant-rows l = record {
+  frame : l.texts.frame ≡ l.fn.texts.frame;
   from : l.from ≤ l.k;
   within : l.k ≤ length l.self.values.items;
   rows : l.fn.rows ++ rows_left l.self l.from ≡ l.rows ++ rows_left l.self l.k;

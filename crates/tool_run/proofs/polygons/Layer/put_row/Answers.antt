@@ -9,10 +9,10 @@ use Rattle.tool_run.specs.Inner.Rows.{shapes_of}
 use Rattle.tool_run.proofs.LayerLemmas.{zip_at}
 use Rattle.tool_run.proofs.polygons.Layer.put_row.Goals as goal
 
-pub returns : goal.returns
-returns c =
+pub returns-clause-row : goal.returns-clause-row
+returns-clause-row c =
     let layer = c.args.self.now in
-    let drawn = c.in_ok-put_shape.ensures in
+    let drawn = c.in_ok-put_shape.ensures.text in
     let value : ℤ = c.index.result.now in
     let at_value : slice_get layer.values.items c.args.k ≡ Some value = grind (arith, common_steps, gets) in
     let value_is : c.put_number.new.text.items ≡ shortest value 0 = grind (arith, common_steps) in
