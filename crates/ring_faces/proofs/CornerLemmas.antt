@@ -8,12 +8,11 @@ use Rattle.edge_trace.specs.Edge.{Corner, Edge, is_level}
 use Rattle.edge_trace.specs.EdgeTable.{EdgeTable}
 use Rattle.edge_trace.specs.declared.table.Corner as coded
 use Rattle.ring_faces.specs.declared.cycles.Cycle.{Cycle}
-use Rattle.ring_faces.specs.declared.rings.RingCorners.{RingCorners}
 use Rattle.ring_faces.specs.Inner.Cycles.{number_after, numbers_from}
 use Rattle.ring_faces.specs.Ring.{points_of}
 use Rattle.ring_faces.specs.Inner.Turns.{AddsTurn, at_turn, turns_after}
 use Rattle.ring_faces.specs.Inner.Tables.{edge_at, edges_from}
-use Rattle.ring_faces.specs.Inner.Chains.{AreRings, between, cycle_at, ring_along, ring_at}
+use Rattle.ring_faces.specs.Inner.Chains.{AreRings, between, cycle_at, ring_along, ring_in}
 use Rattle.ring_faces.proofs.NumberLemmas.{numbers_push}
 
 -- one edge more
@@ -88,8 +87,8 @@ between_new xs ys a b begin end = ap (take (b - a)) (drop-append-le a xs ys (ome
 points_many : (corners : List coded.Corner) → length (points_of corners) ≡ length corners
 points_many corners = length-map corners (λ (corner : coded.Corner). (corner.row, corner.col))
 
-pub rings_begin : (table : EdgeTable) (rings : RingCorners) → rings.corners.items ≡ [] → rings.starts.items ≡ 0 ∷ [] → AreRings table [] rings
-rings_begin table rings none zeros = record {
+pub rings_begin : (table : EdgeTable) (corners : List coded.Corner) (starts : List ℕ) → corners ≡ [] → starts ≡ 0 ∷ [] → AreRings table [] corners starts
+rings_begin table corners starts none zeros = record {
   sized = ap length zeros;
   end = ap (λ (ns : List ℕ). slice_index ns 0) zeros ∙ sym (ap length none);
   in_rings = record {
@@ -121,58 +120,58 @@ cycle_before cycles cycle i less = cycle_got (cycles ++ cycle ∷ []) i ∙ get_
 cycle_last : (cycles : List Cycle) (cycle : Cycle) → cycle_at (cycles ++ cycle ∷ []) (length cycles) ≡ cycle
 cycle_last cycles cycle = cycle_got (cycles ++ cycle ∷ []) (length cycles) ∙ get_or_at cycles cycle [] (record { first = 0; edges = 0 }) (length cycles) refl
 
-pub rings_push : (table : EdgeTable) (cycles : List Cycle) (cycle : Cycle) (old new : RingCorners) → AreRings table cycles old
-    → points_of new.corners.items ≡ points_of old.corners.items ++ ring_along table cycle
-    → new.starts.items ≡ old.starts.items ++ length new.corners.items ∷ [] → AreRings table (cycles ++ cycle ∷ []) new
-rings_push table cycles cycle old new are corners starts =
-    let xs = points_of old.corners.items in
+pub rings_push : (table : EdgeTable) (cycles : List Cycle) (cycle : Cycle) (old new : List coded.Corner) (old_starts new_starts : List ℕ) → AreRings table cycles old old_starts
+    → points_of new ≡ points_of old ++ ring_along table cycle
+    → new_starts ≡ old_starts ++ length new ∷ [] → AreRings table (cycles ++ cycle ∷ []) new new_starts
+rings_push table cycles cycle old new old_starts new_starts are corners starts =
+    let xs = points_of old in
     let ring = ring_along table cycle in
-    let end = length new.corners.items in
-    let longer : end ≡ length (xs ++ ring) = sym (points_many new.corners.items) ∙ ap length corners in
-    let old_end : length xs ≡ length old.corners.items = points_many old.corners.items in
+    let end = length new in
+    let longer : end ≡ length (xs ++ ring) = sym (points_many new) ∙ ap length corners in
+    let old_end : length xs ≡ length old = points_many old in
     let grown : length xs ≤ end = omega (arith, longer, length-append xs ring) in
-    let many : length new.starts.items ≡ length old.starts.items + 1 = ap length starts ∙ length-append old.starts.items (end ∷ []) in
-    let was : (i : ℕ) → i < length old.starts.items → slice_index new.starts.items i ≡ slice_index old.starts.items i = λ i less. ap
-    (λ (ns : List ℕ). slice_index ns i) starts ∙ start_before old.starts.items end i less in
-    let last : slice_index new.starts.items (length cycles + 1) ≡ end = ap (λ (ns : List ℕ). slice_index ns (length cycles + 1)) starts
-    ∙ start_last old.starts.items end (length cycles + 1) are.sized in
-    let begin : slice_index new.starts.items (length cycles) ≡ length xs = was (length cycles) (omega (arith, are.sized)) ∙ are.end ∙ sym old_end in
+    let many : length new_starts ≡ length old_starts + 1 = ap length starts ∙ length-append old_starts (end ∷ []) in
+    let was : (i : ℕ) → i < length old_starts → slice_index new_starts i ≡ slice_index old_starts i = λ i less. ap
+    (λ (ns : List ℕ). slice_index ns i) starts ∙ start_before old_starts end i less in
+    let last : slice_index new_starts (length cycles + 1) ≡ end = ap (λ (ns : List ℕ). slice_index ns (length cycles + 1)) starts
+    ∙ start_last old_starts end (length cycles + 1) are.sized in
+    let begin : slice_index new_starts (length cycles) ≡ length xs = was (length cycles) (omega (arith, are.sized)) ∙ are.end ∙ sym old_end in
     let cycles_many : length (cycles ++ cycle ∷ []) ≡ length cycles + 1 = length-append cycles (cycle ∷ []) in
     record {
       sized = omega (arith, many, are.sized, cycles_many);
-      end = ap (slice_index new.starts.items) cycles_many ∙ last;
+      end = ap (slice_index new_starts) cycles_many ∙ last;
       in_rings = record {
-        within = λ i less. elim (cases_lt i (length old.starts.items)) [
+        within = λ i less. elim (cases_lt i (length old_starts)) [
           | inl before ↦ omega (arith, was i before, are.in_rings.within i before, old_end, grown)
           | inr past ↦
               let at : i ≡ length cycles + 1 = omega (arith, less, past, many, are.sized) in
-              omega (arith, ap (slice_index new.starts.items) at ∙ last)
+              omega (arith, ap (slice_index new_starts) at ∙ last)
         ];
-        rising = λ i less. elim (cases_lt (i + 1) (length old.starts.items)) [
+        rising = λ i less. elim (cases_lt (i + 1) (length old_starts)) [
           | inl inner ↦ omega (arith, was i (omega arith), was (i + 1) inner, are.in_rings.rising i inner)
           | inr past ↦
               let at : i ≡ length cycles = omega (arith, less, past, many, are.sized) in
-              omega (arith, ap (slice_index new.starts.items) at ∙ begin, ap (λ (n : ℕ). slice_index new.starts.items (n + 1)) at ∙ last, grown)
+              omega (arith, ap (slice_index new_starts) at ∙ begin, ap (λ (n : ℕ). slice_index new_starts (n + 1)) at ∙ last, grown)
         ];
       };
       each = λ i less. elim (cases_lt i (length cycles)) [
         | inl before ↦
             let from = was i (omega (arith, before, are.sized)) in
             let to = was (i + 1) (omega (arith, before, are.sized)) in
-            let old_to : slice_index old.starts.items (i + 1) ≤ length xs = omega
+            let old_to : slice_index old_starts (i + 1) ≤ length xs = omega
             (arith, are.in_rings.within (i + 1) (omega (arith, before, are.sized)), old_end) in
-            ap (λ (ps : List Corner). between ps (slice_index new.starts.items i) (slice_index new.starts.items (i + 1))) corners
-            ∙ ap (λ (n : ℕ). between (xs ++ ring) n (slice_index new.starts.items (i + 1))) from
-            ∙ ap (λ (n : ℕ). between (xs ++ ring) (slice_index old.starts.items i) n) to
-            ∙ between_old xs ring (slice_index old.starts.items i) (slice_index old.starts.items (i + 1))
+            ap (λ (ps : List Corner). between ps (slice_index new_starts i) (slice_index new_starts (i + 1))) corners
+            ∙ ap (λ (n : ℕ). between (xs ++ ring) n (slice_index new_starts (i + 1))) from
+            ∙ ap (λ (n : ℕ). between (xs ++ ring) (slice_index old_starts i) n) to
+            ∙ between_old xs ring (slice_index old_starts i) (slice_index old_starts (i + 1))
             (are.in_rings.rising i (omega (arith, before, are.sized))) old_to
             ∙ are.each i before ∙ ap (ring_along table) (sym (cycle_before cycles cycle i before))
         | inr past ↦
             let at : i ≡ length cycles = omega (arith, less, past, cycles_many) in
-            let new_ring : ring_at new (length cycles) ≡ ring = ap (λ (ps : List Corner). between ps (slice_index new.starts.items (length cycles))
-            (slice_index new.starts.items (length cycles + 1))) corners
+            let new_ring : ring_in new new_starts (length cycles) ≡ ring = ap (λ (ps : List Corner). between ps (slice_index new_starts (length cycles))
+            (slice_index new_starts (length cycles + 1))) corners
             ∙ between_new xs ring _ _ begin (last ∙ longer) in
-            ap (ring_at new) at ∙ new_ring ∙ ap (ring_along table) (sym (cycle_last cycles cycle) ∙ ap (cycle_at (cycles ++ cycle ∷ [])) (sym at))
+            ap (ring_in new new_starts) at ∙ new_ring ∙ ap (ring_along table) (sym (cycle_last cycles cycle) ∙ ap (cycle_at (cycles ++ cycle ∷ [])) (sym at))
       ];
     }
 

@@ -212,7 +212,7 @@ cycles_few table cycles linked are =
         (rising cs (pairs_tail (λ d e. d.first < e.first) c cs order))
 
 pub assembled_faces : (regions : RegionTable) (table : EdgeTable) (cycles : List Cycle) (lists : CycleLists) (rings : RingCorners)
-    → IsAssembled regions table cycles lists → AreRings table cycles rings → AreFaces rings lists
+    → IsAssembled regions table cycles lists → AreRings table cycles rings.corners.items rings.starts.items → AreFaces rings lists
 assembled_faces regions table cycles lists rings is are = record {
   linked = record {
     in_rings = are.in_rings;

@@ -1,7 +1,6 @@
 // Finds the cycles of a table's links, and the corners where they turn.
 ghost use Rattle.std.specs.Prelude.{◌≡◌, ◌+◌, ◌++◌, ◌^◌, ◌<◌, IfOk, OnOk, length, vec_len};
-ghost use Rattle.ring_faces.specs.Ring.{points_of};
-ghost use Rattle.ring_faces.specs.Inner.Blocks.{IsEmptyBlock};
+ghost use Rattle.ring_faces.specs.Inner.Blocks.{IsBlock, gathered, gathered_points};
 ghost use Rattle.ring_faces.specs.Inner.Chains.{AreRings, ring_along};
 ghost use Rattle.ring_faces.specs.Inner.Cycles.{AreAllCycles, AreFound, AreMarks, IsFree, IsRound, MarksThese, numbers_of};
 ghost use Rattle.ring_faces.specs.Inner.Tables.{IsLinkedTable};
@@ -38,13 +37,13 @@ fn walk(
     requires marks { AreMarks edges.now.next marks.old }
     requires first { first < length edges.now.next }
     requires free { IsFree marks.old first }
-    requires block { IsEmptyBlock block.old }
+    requires block { IsBlock block.old }
     ensures first { IfOk result (λ cycle. cycle.first ≡ first) }
     ensures round { IfOk result (IsRound edges.now.next) }
     ensures marks { IfOk result (λ cycle. MarksThese (numbers_of edges.now.next cycle) marks.old marks.new) }
     ensures corners { IfOk result (λ cycle.
-        points_of corners.new.items ≡ points_of corners.old.items ++ ring_along edges.now cycle) }
-    ensures block { OnOk result (IsEmptyBlock block.new) }
+        gathered_points corners.new.items block.new ≡ gathered_points corners.old.items block.old ++ ring_along edges.now cycle) }
+    ensures block { OnOk result (IsBlock block.new) }
 {
     let mut count = 0;
     let mut at = first;
@@ -55,7 +54,6 @@ fn walk(
         level = block.push_turn(edges, corners, at, level)?;
         at = edges.next(at);
     }
-    block.move_to(corners)?;
     Ok(Cycle {
         first,
         edges: count,
@@ -75,17 +73,21 @@ impl Cycles {
         requires few { length edges.now.edges < 2 ^ 32 }
         requires edge { e < length edges.now.next }
         requires found { AreFound edges.now.next self.old.cycles.items marks.old e }
-        requires rings { AreRings edges.now self.old.cycles.items self.old.rings }
-        requires block { IsEmptyBlock block.old }
+        requires rings { AreRings edges.now self.old.cycles.items
+            (gathered self.old.rings.corners.items block.old) self.old.rings.starts.items }
+        requires block { IsBlock block.old }
         ensures found { OnOk result (AreFound edges.now.next self.new.cycles.items marks.new (e + 1)) }
-        ensures rings { OnOk result (AreRings edges.now self.new.cycles.items self.new.rings) }
-        ensures block { OnOk result (IsEmptyBlock block.new) }
+        ensures rings { OnOk result (AreRings edges.now self.new.cycles.items
+            (gathered self.new.rings.corners.items block.new) self.new.rings.starts.items) }
+        ensures block { OnOk result (IsBlock block.new) }
     {
         if marks[e as usize] {
             return Ok(());
         }
         let cycle = walk(edges, marks, block, &mut self.rings.corners, e)?;
-        self.rings.starts.push(self.rings.corners.len())?;
+        self.rings
+            .starts
+            .push(block.count_behind(&self.rings.corners))?;
         self.cycles.push(cycle)?;
         Ok(())
     }
@@ -95,7 +97,8 @@ impl Cycles {
         requires linked { IsLinkedTable edges.now }
         ensures all { IfOk result (λ found. AreAllCycles edges.now.next found.cycles.items) }
         ensures few { IfOk result (λ found. vec_len found.cycles < 2 ^ 32) }
-        ensures rings { IfOk result (λ found. AreRings edges.now found.cycles.items found.rings) }
+        ensures rings { IfOk result (λ found.
+            AreRings edges.now found.cycles.items found.rings.corners.items found.rings.starts.items) }
     {
         let mut marks = vec![in alloc; false; edges.count() as usize]?;
         let mut block = TurnBlock::make(alloc)?;
@@ -109,6 +112,7 @@ impl Cycles {
         for e in 0..edges.count() {
             found.find(edges, &mut marks, &mut block, e)?;
         }
+        block.move_to(&mut found.rings.corners)?;
         Ok(found)
     }
 }

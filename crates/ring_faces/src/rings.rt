@@ -15,7 +15,7 @@ pub(crate) struct RingCorners {
 impl RingCorners {
     // The corners of a cycle's ring.
     pub(crate) fn ring(&self, at: usize) -> &[Corner]
-        requires rings { AreInRings self.now }
+        requires rings { AreInRings self.now.corners.items self.now.starts.items }
         requires at { at + 1 < length self.now.starts.items }
         ensures { points_of result.now ≡ ring_at self.now at }
     {

@@ -2,7 +2,7 @@
 ghost use Rattle.std.specs.Prelude.{◌≡◌, ◌+◌, ◌<◌, ◌≤◌, ◌++◌, IfOk, OnOk, length};
 ghost use Rattle.edge_trace.specs.Edge.{is_level};
 ghost use Rattle.ring_faces.specs.Ring.{points_of};
-ghost use Rattle.ring_faces.specs.Inner.Blocks.{IsBlock, IsEmptyBlock, gathered, held};
+ghost use Rattle.ring_faces.specs.Inner.Blocks.{IsBlock, IsEmptyBlock, gathered, gathered_points, held};
 ghost use Rattle.ring_faces.specs.Inner.Tables.{edge_at};
 ghost use Rattle.ring_faces.specs.Inner.Turns.{AddsTurn};
 
@@ -43,6 +43,14 @@ impl TurnBlock {
         now
     }
 
+    // The number of corners of a list and of this block behind it.
+    pub(crate) fn count_behind(&self, corners: &Vec<Corner>) -> usize
+        requires { IsBlock self.now }
+        ensures { result ≡ length (gathered corners.now.items self.now) }
+    {
+        corners.len() + self.count
+    }
+
     // Moves its corners to a list.
     pub(crate) fn move_to(&mut self, corners: &mut Vec<Corner>) -> Result<(), AllocError>
         requires block { IsBlock self.old }
@@ -80,7 +88,7 @@ impl TurnBlock {
         requires block { IsBlock self.old }
         ensures level { IfOk result (λ now. now ≡ is_level (edge_at edges.now e)) }
         ensures turn { OnOk result (AddsTurn (edge_at edges.now e) level
-            (gathered corners.old.items self.old) (gathered corners.new.items self.new)) }
+            (gathered_points corners.old.items self.old) (gathered_points corners.new.items self.new)) }
         ensures block { OnOk result (IsBlock self.new) }
     {
         self.make_room(corners)?;

@@ -10,8 +10,11 @@ abbrev pub held : TurnBlock → List coded.Corner
 held block = take block.count block.corners.items
 
 -- those of a list, and behind them those of a block
-abbrev pub gathered : List coded.Corner → TurnBlock → List Corner
-gathered corners block = points_of (corners ++ held block)
+abbrev pub gathered : List coded.Corner → TurnBlock → List coded.Corner
+gathered corners block = corners ++ held block
+
+abbrev pub gathered_points : List coded.Corner → TurnBlock → List Corner
+gathered_points corners block = points_of (gathered corners block)
 
 -- a block has room, and holds no more than that
 pub record IsBlock (block : TurnBlock) : Type 0 where

@@ -2,6 +2,7 @@
 use Rattle.std.specs.Prelude.{◌≡◌, ℕ, zero, suc, ◌+◌, ◌-◌, ◌<◌, ◌≤◌, ◌↔◌, List, [], ◌∷◌, Some, AllPairs, Contains, drop, length, map, nat_lt, slice_get, slice_index, take, unwrap_or, if◌then◌else◌}
 use Rattle.region_label.specs.Labelling.{RegionTable}
 use Rattle.edge_trace.specs.Edge.{Corner}
+use Rattle.edge_trace.specs.declared.table.Corner as coded
 use Rattle.edge_trace.specs.EdgeTable.{EdgeTable, IsEdgeOf}
 use Rattle.ring_faces.specs.LatticePolygon.{Polygon}
 use Rattle.ring_faces.specs.Ring.{Ring, points_of}
@@ -65,23 +66,25 @@ ring_traced table cycles i = ring_along table (cycle_at cycles i)
 abbrev pub between : List Corner → ℕ → ℕ → List Corner
 between corners from to = take (to - from) (drop from corners)
 
--- the ring at an index, as it was kept
+-- the ring at an index, by all corners and by where those of each ring begin
+abbrev pub ring_in : List coded.Corner → List ℕ → ℕ → Ring
+ring_in corners starts i = between (points_of corners) (slice_index starts i) (slice_index starts (i + 1))
+
+-- as it was kept
 abbrev pub ring_at : RingCorners → ℕ → Ring
-ring_at rings i = between (points_of rings.corners.items)
-    (slice_index rings.starts.items i) (slice_index rings.starts.items (i + 1))
+ring_at rings = ring_in rings.corners.items rings.starts.items
 
 -- the rings lie in the list of corners
-pub record AreInRings (rings : RingCorners) : Type 0 where
-  pub within : (i : ℕ) → i < length rings.starts.items → slice_index rings.starts.items i ≤ length rings.corners.items
-  pub rising : (i : ℕ) → i + 1 < length rings.starts.items
-      → slice_index rings.starts.items i ≤ slice_index rings.starts.items (i + 1)
+pub record AreInRings (corners : List coded.Corner) (starts : List ℕ) : Type 0 where
+  pub within : (i : ℕ) → i < length starts → slice_index starts i ≤ length corners
+  pub rising : (i : ℕ) → i + 1 < length starts → slice_index starts i ≤ slice_index starts (i + 1)
 
--- the rings of these cycles are kept
-pub record AreRings (table : EdgeTable) (cycles : List Cycle) (rings : RingCorners) : Type 0 where
-  pub sized : length rings.starts.items ≡ length cycles + 1
-  pub end : slice_index rings.starts.items (length cycles) ≡ length rings.corners.items
-  pub in_rings : AreInRings rings
-  pub each : (i : ℕ) → i < length cycles → ring_at rings i ≡ ring_traced table cycles i
+-- the rings of these cycles are there
+pub record AreRings (table : EdgeTable) (cycles : List Cycle) (corners : List coded.Corner) (starts : List ℕ) : Type 0 where
+  pub sized : length starts ≡ length cycles + 1
+  pub end : slice_index starts (length cycles) ≡ length corners
+  pub in_rings : AreInRings corners starts
+  pub each : (i : ℕ) → i < length cycles → ring_in corners starts i ≡ ring_traced table cycles i
 
 -- the rings that are linked from one on
 abbrev pub rings_from : (ℕ → Ring) → List ℕ → ℕ → List Ring
@@ -103,7 +106,7 @@ CyclesBegin table cycles = (cycle : Cycle) → Contains cycles cycle → cycle.f
 
 -- the rings are kept, and their links can be followed
 pub record AreLinkedRings (rings : RingCorners) (links : List ℕ) : Type 0 where
-  pub in_rings : AreInRings rings
+  pub in_rings : AreInRings rings.corners.items rings.starts.items
   pub sized : length rings.starts.items ≡ length links + 1
   pub rising : AreRising links
 

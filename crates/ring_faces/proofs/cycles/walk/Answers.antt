@@ -1,7 +1,6 @@
-use Rattle.std.proofs.Common.{◌≡◌, ◌+◌, ◌∙◌, ℕ, set, true, ap, subst, arith}
+use Rattle.std.proofs.Common.{◌≡◌, ◌+◌, ℕ, set, true, subst, arith}
 use Rattle.std.specs.Prelude.{slice_index}
 use Rattle.std.proofs.lemmas.Option.{get_or_from_slice_get}
-use Rattle.ring_faces.specs.Ring.{points_of}
 use Rattle.ring_faces.proofs.CornerLemmas.{turns_done, turns_on}
 use Rattle.ring_faces.proofs.NumberLemmas.{IsUnderWay, under_way_on, under_way_round, under_way_short}
 use Rattle.ring_faces.proofs.cycles.walk.Goals as goal
@@ -30,5 +29,4 @@ returns-clause-round c = under_way_round _ _ _ _ _ _ c.requires.linked.links c.w
 pub returns-clause-corners : goal.returns-clause-corners
 returns-clause-corners c =
     let round = under_way_round _ _ _ _ _ _ c.requires.linked.links c.walk.invariant.way c.walk-test.false in
-    let moved = c.in_ok-move_to.ensures.moved in
-    ap points_of moved ∙ turns_done c.args.edges.now _ _ _ _ _ c.walk.invariant.turns round.some
+    turns_done c.args.edges.now _ _ _ _ _ c.walk.invariant.turns round.some

@@ -1,7 +1,5 @@
-use Rattle.std.proofs.Common.{◌≡◌, ◌∙◌, ◌++◌, ◌∷◌, [], ℕ, length, ap, arith}
-use Rattle.std.specs.Prelude.{vec_len}
-use Rattle.std.proofs.lemmas.Grind.{common_steps}
-use Rattle.ring_faces.specs.declared.rings.RingCorners.{RingCorners}
+use Rattle.std.proofs.Common.{◌≡◌, ◌∙◌, ◌++◌, ◌∷◌, [], ℕ, length, ap}
+use Rattle.ring_faces.specs.Inner.Blocks.{gathered}
 use Rattle.ring_faces.proofs.CornerLemmas.{rings_push}
 use Rattle.ring_faces.proofs.NumberLemmas.{found_more, found_pass}
 use Rattle.ring_faces.proofs.cycles.Cycles.find.Goals as goal
@@ -17,10 +15,10 @@ returns-clause-found c =
 pub returns-clause-rings : goal.returns-clause-rings
 returns-clause-rings c =
     let walked = c.in_ok-cycle.ensures {u = tt} in
-    let old : RingCorners = c.args.self.now.rings in
-    let new : RingCorners = record { corners = c.walk.new.corners; starts = c.push.new.self } in
-    let many : vec_len new.corners ≡ length new.corners.items = grind (arith, common_steps) in
-    let starts : new.starts.items ≡ old.starts.items ++ length new.corners.items ∷ [] = c.in_ok-push.ensures.items
-    ∙ ap (λ (n : ℕ). old.starts.items ++ n ∷ []) (c.len.ensures ∙ many) in
+    let old_starts = c.args.self.now.rings.starts.items in
+    let old = gathered c.args.self.now.rings.corners.items c.args.block.now in
+    let new = gathered c.walk.new.corners.items c.walk.new.block in
+    let starts : c.push.new.self.items ≡ old_starts ++ length new ∷ [] = c.in_ok-push.ensures.items
+    ∙ ap (λ (n : ℕ). old_starts ++ n ∷ []) c.count_behind.ensures in
     rw c.in_ok-push-2.ensures.items
-    (rings_push c.args.edges.now c.args.self.now.cycles.items c.in_ok-cycle.cycle old new c.requires.rings walked.corners starts)
+    (rings_push c.args.edges.now c.args.self.now.cycles.items c.in_ok-cycle.cycle old new old_starts c.push.new.self.items c.requires.rings walked.corners starts)
