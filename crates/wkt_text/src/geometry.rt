@@ -1,5 +1,5 @@
 // Geometries.
-ghost use Rattle.std.specs.Prelude.{◌≡◌, ◌↔◌, ◌++◌, ◌∷◌, [], IfOk, IsTrue, OnErr, OnOk, length, option_map, slice_get};
+ghost use Rattle.std.specs.Prelude.{◌≡◌, ◌↔◌, ◌++◌, ◌∷◌, [], IsTrue, OnErr, OnOk, length, option_map, slice_get};
 
 use fixed_coord::Coord;
 use std::alloc::{AllocError, Global};
@@ -35,14 +35,6 @@ impl Path {
         Path {
             points: Vec::new(alloc),
         }
-    }
-
-    /// No point, and room for so many. The only error is want of memory.
-    pub fn with_capacity(alloc: Global, room: usize) -> Result<Path, AllocError>
-        ensures { IfOk result (λ path. path ≡ []) }
-    {
-        let points = Vec::with_capacity(alloc, room)?;
-        Ok(Path { points })
     }
 
     /// Adds a point at the end. A refusal leaves the list as it was.
