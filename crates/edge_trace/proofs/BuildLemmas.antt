@@ -9,13 +9,14 @@ use Rattle.cell_base.proofs.PlaceLemmas.{inside_from_value}
 use Rattle.region_label.proofs.RowsLemmas.{few_columns}
 use Rattle.region_label.specs.Labelling.{RegionTable}
 use Rattle.edge_trace.specs.Inner.Sides.{AreSides, IsStride, side_number}
-use Rattle.edge_trace.specs.Inner.Links.{AreInRows, AreRoomy, IsPowerOfTwo}
+use Rattle.edge_trace.specs.Inner.Links.{AreFollowed, AreInRows, AreRoomy, IsPowerOfTwo}
 use Rattle.edge_trace.specs.Inner.Table.{IsPower, IsTable}
 use Rattle.edge_trace.specs.declared.sides.Sides.{Sides}
 use Rattle.edge_trace.specs.declared.table.Stride.{Stride}
 use Rattle.edge_trace.proofs.FollowLemmas.{AreAllSides}
 use Rattle.edge_trace.proofs.GrowLemmas.{narrow_of}
 use Rattle.edge_trace.proofs.NumberLemmas.{count_below, number_before, number_quarter}
+use Rattle.edge_trace.proofs.WholeLemmas.{leads_on}
 
 -- the power of two is a stride of the numbers
 pub stride_is : (regions : RegionTable) (stride : Stride) → IsRaster regions.numbers → IsPower regions.numbers.ncols stride → IsStride regions.numbers.ncols regions.numbers.nrows stride.stride
@@ -47,10 +48,14 @@ roomy regions stride numbers owners shape is whole i x at =
     let high = is.few each.cell.0 (omega (arith, within.0)) in
     (omega (arith, each.number_is, low), omega (arith, each.number_is, high, within.1, is.wide, is.narrow, each.is.few))
 
-pub few_numbers : (regions : RegionTable) (stride : ℕ) (numbers owners : List ℕ) → IsRaster regions.numbers → IsStride regions.numbers.ncols regions.numbers.nrows stride → AreAllSides regions stride numbers owners → length numbers < 4294967296
+pub few_numbers : (regions : RegionTable) (stride : ℕ) (numbers owners : List ℕ) → IsRaster regions.numbers → IsStride regions.numbers.ncols regions.numbers.nrows stride → AreAllSides regions stride numbers owners → length numbers < 536870912
 few_numbers regions stride numbers owners shape is whole =
-    let below : (i x : ℕ) → slice_get numbers i ≡ Some x → x < 4294967295 = λ i x at. omega (arith, (roomy regions stride numbers owners shape is whole i x at).1, (roomy regions stride numbers owners shape is whole i x at).0) in
-    omega (arith, count_below numbers 4294967295 whole.sides.rising below)
+    let below : (i x : ℕ) → slice_get numbers i ≡ Some x → x < 536870911 = λ i x at.
+    let each = whole.sides.each i x at in
+    let within = inside_from_value regions.numbers each.cell (Some each.owner) shape each.is.inside in
+    let high : (each.cell.0 + 2) * stride ≤ (regions.numbers.nrows + 1) * stride = mul-le-mul_right stride (omega (arith, within.0)) in
+    omega (arith, each.number_is, high, is.few regions.numbers.nrows (omega arith), within.1, is.wide, each.is.few) in
+    omega (arith, count_below numbers 536870911 whole.sides.rising below)
 
 -- the numbers are those of the rows
 pub in_rows : (regions : RegionTable) (stride : ℕ) (numbers owners : List ℕ) → IsRaster regions.numbers → IsStride regions.numbers.ncols regions.numbers.nrows stride → AreAllSides regions stride numbers owners → AreInRows stride regions.numbers.nrows numbers
@@ -76,23 +81,27 @@ stride_power ncols stride power narrow =
     )
 
 -- what the table keeps
-pub table_kept : (regions : RegionTable) (stride : Stride) (numbers owners next : List ℕ) → IsRaster regions.numbers → IsPower regions.numbers.ncols stride → AreAllSides regions stride.stride numbers owners → length next ≡ length numbers → IsTable stride.shift stride.stride numbers next
-table_kept regions stride numbers owners next shape power whole all =
+pub table_kept : (regions : RegionTable) (stride : Stride) (numbers owners ways : List ℕ) → IsRaster regions.numbers → IsPower regions.numbers.ncols stride → AreAllSides regions stride.stride numbers owners → AreFollowed stride.stride numbers owners ways → length ways ≡ length numbers → IsTable stride.shift stride.stride numbers ways
+table_kept regions stride numbers owners ways shape power whole followed all =
     let is = stride_is regions stride shape power in
     record {
-      power = power.power;
-      narrow = elim (cases_lt stride.shift 32) [
-        | inl less ↦ less
-        | inr large ↦ absurd (omega (arith, pow-le-pow_right {n = 2} (omega arith) large, power.power, is.narrow))
-      ];
+      sides = record {
+        power = power.power;
+        narrow = elim (cases_lt stride.shift 32) [
+          | inl less ↦ less
+          | inr large ↦ absurd (omega (arith, pow-le-pow_right {n = 2} (omega arith) large, power.power, is.narrow))
+        ];
+        low = λ i x at. omega (arith, (roomy regions stride.stride numbers owners shape is whole i x at).1);
+        placed = λ i x at.
+            let each = whole.sides.each i x at in
+            let narrow = whole.narrow each.owner each.cell each.is.inside in
+            let place = (each.cell.0 + 1) * stride.stride + (each.cell.1 + 1) in
+            let quarter : x / 4 ≡ place = ap (λ (n : ℕ). n / 4) each.number_is ∙ number_quarter place each.side each.is.few in
+            let row : x / 4 / stride.stride ≡ each.cell.0 + 1 = ap (λ (n : ℕ). n / stride.stride) quarter ∙ div-mul-add (each.cell.0 + 1) stride.stride (each.cell.1 + 1) (omega (arith, narrow)) in
+            let col : x / 4 % stride.stride ≡ each.cell.1 + 1 = ap (λ (n : ℕ). n % stride.stride) quarter ∙ mod-mul-add (each.cell.0 + 1) stride.stride (each.cell.1 + 1) (omega (arith, narrow)) in
+            (omega (arith, row), omega (arith, col));
+      };
       linked = all;
       few = few_numbers regions stride.stride numbers owners shape is whole;
-      placed = λ i x at.
-          let each = whole.sides.each i x at in
-          let narrow = whole.narrow each.owner each.cell each.is.inside in
-          let place = (each.cell.0 + 1) * stride.stride + (each.cell.1 + 1) in
-          let quarter : x / 4 ≡ place = ap (λ (n : ℕ). n / 4) each.number_is ∙ number_quarter place each.side each.is.few in
-          let row : x / 4 / stride.stride ≡ each.cell.0 + 1 = ap (λ (n : ℕ). n / stride.stride) quarter ∙ div-mul-add (each.cell.0 + 1) stride.stride (each.cell.1 + 1) (omega (arith, narrow)) in
-          let col : x / 4 % stride.stride ≡ each.cell.1 + 1 = ap (λ (n : ℕ). n % stride.stride) quarter ∙ mod-mul-add (each.cell.0 + 1) stride.stride (each.cell.1 + 1) (omega (arith, narrow)) in
-          (omega (arith, row), omega (arith, col));
+      leads = λ i x way at to. leads_on regions stride.stride numbers owners ways i x way whole followed at to;
     }

@@ -106,7 +106,7 @@ ends_pushed regions stride k run from to n m a b c narrow is first some last abo
 -- the numbers of a run's cells are small
 pub record IsRoom (at stride before : ℕ) : Type 0 where
   pub low : at < 2 ^ 28
-  pub row : (at + 1) * stride ≤ 2 ^ 28
+  pub row : (at + 1) * stride ≤ 2 ^ 27
   pub col : before + 2 < stride
   pub narrow : stride ≤ 2 ^ 27
 

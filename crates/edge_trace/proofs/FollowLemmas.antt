@@ -1,5 +1,5 @@
 -- What follows a side among all sides of components.
-use Rattle.std.proofs.Common.{◌≡◌, ℕ, zero, suc, ◌+◌, ◌*◌, ◌%◌, ◌<◌, ◌≤◌, inl, inr, Bool, false, List, Some, refl, ap, sym, ◌∙◌, subst, arith}
+use Rattle.std.proofs.Common.{◌≡◌, ℕ, zero, suc, ◌+◌, ◌*◌, ◌/◌, ◌%◌, ◌<◌, ◌≤◌, inl, inr, Bool, false, List, Some, refl, ap, sym, ◌∙◌, subst, arith}
 use Rattle.std.specs.Prelude.{slice_get}
 use Rattle.std.proofs.lemmas.Bool.{false_from_ne_true}
 use Rattle.std.proofs.lemmas.Option.{same_Some}
@@ -93,18 +93,19 @@ found regions stride numbers owners k corner m whole few out =
     let at = whole.sides.every k (out_side m) side.0 side.2 (whole.all k (out_side m) side.0 side.2) in
     (at.0, (at.1 ∙ ap (λ (n : ℕ). Some n) (number_at stride corner m side.0 (out_side m) side.1), at.2))
 
--- the follower begins at the corner, at the place to which the edge leads
-pub record LeadsTo (regions : RegionTable) (stride : ℕ) (numbers owners : List ℕ) (k : ℕ) (corner : Corner) (j n : ℕ) : Type 0 where
+-- the follower begins at the corner, at the place to which the edge leads, and the way tells where it stands and its side
+pub record LeadsTo (regions : RegionTable) (stride : ℕ) (numbers owners : List ℕ) (k : ℕ) (corner : Corner) (j way : ℕ) : Type 0 where
   pub place : ℕ
   pub few : place < 4
-  pub there : IsThere numbers owners k (out_number stride corner place) n
+  pub there : IsThere numbers owners k (out_number stride corner place) (way / 4)
+  pub side : way % 4 ≡ out_number stride corner place % 4
   pub leads : Leads (has_at regions k corner) j place
 
 there_is : (numbers owners : List ℕ) (k t u n : ℕ) → t ≡ u → IsThere numbers owners k t n → IsThere numbers owners k u n
 there_is numbers owners k t u n same there = (there.0 ∙ ap (λ (x : ℕ). Some x) same, there.1)
 
-pub follower_leads : (regions : RegionTable) (stride : ℕ) (numbers owners : List ℕ) (k : ℕ) (corner : Corner) (j : ℕ) (cell : Place) (side n : ℕ) (turns : Turns) → AreAllSides regions stride numbers owners → EndsAt corner j cell side → IsSide regions k cell side → corner.1 + 1 < stride → AreTurns stride (side_number stride cell side) turns → IsFollower numbers owners k turns n → LeadsTo regions stride numbers owners k corner j n
-follower_leads regions stride numbers owners k corner j cell side n turns whole ends is narrow are follower =
+pub follower_leads : (regions : RegionTable) (stride : ℕ) (numbers owners : List ℕ) (k : ℕ) (corner : Corner) (j : ℕ) (cell : Place) (side way : ℕ) (turns : Turns) → AreAllSides regions stride numbers owners → EndsAt corner j cell side → IsSide regions k cell side → corner.1 + 1 < stride → AreTurns stride (side_number stride cell side) turns → IsFollower numbers owners k turns way → LeadsTo regions stride numbers owners k corner j way
+follower_leads regions stride numbers owners k corner j cell side way turns whole ends is narrow are follower =
     let b : ℕ → Bool = has_at regions k corner in
     let number : side_number stride cell side ≡ in_number stride corner j = number_at stride corner j cell side ends.at ∙ ap (λ (s : ℕ). place_number stride (row_at corner j) (col_at corner j) s) ends.side_is in
     let quarter : side_number stride cell side % 4 ≡ in_side j = ap (λ (x : ℕ). x % 4) number ∙ number_side (row_at corner j * stride + col_at corner j) (in_side j) (few_in j) in
@@ -114,12 +115,13 @@ follower_leads regions stride numbers owners k corner j cell side n turns whole 
     let inward : IsIn b j = side_in regions k corner j cell ends.few ends.at (subst (λ (s : ℕ). IsSide regions k cell s) ends.side_is is) in
     elim follower [
       | inl there ↦
-          let at = there_is numbers owners k turns.right (out_number stride corner (across j)) n right there in
+          let at = there_is numbers owners k turns.right (out_number stride corner (across j)) (way / 4) right there.0 in
           record {
             place = across j;
             few = few_across j;
             there = at;
-            leads = inl (refl, (present regions stride numbers owners n k corner (across j) whole narrow (few_across j) at).0);
+            side = there.1 ∙ ap (λ (x : ℕ). x % 4) right;
+            leads = inl (refl, (present regions stride numbers owners (way / 4) k corner (across j) whole narrow (few_across j) at).0);
           }
       | inr other ↦
           let no_across : b (across j) ≡ false = false_from_ne_true (b (across j)) (λ there.
@@ -127,23 +129,25 @@ follower_leads regions stride numbers owners k corner j cell side n turns whole 
           other.0 again.0 (there_is numbers owners k (out_number stride corner (across j)) turns.right again.0 (sym right) again.1)) in
           elim other.1 [
             | inl there ↦
-                let at = there_is numbers owners k turns.straight (out_number stride corner (onward j)) n straight there in
+                let at = there_is numbers owners k turns.straight (out_number stride corner (onward j)) (way / 4) straight there.0 in
                 record {
                   place = onward j;
                   few = few_onward j;
                   there = at;
-                  leads = inr (inl (refl, no_across, (present regions stride numbers owners n k corner (onward j) whole narrow (few_onward j) at).0));
+                  side = there.1 ∙ ap (λ (x : ℕ). x % 4) straight;
+                  leads = inr (inl (refl, no_across, (present regions stride numbers owners (way / 4) k corner (onward j) whole narrow (few_onward j) at).0));
                 }
             | inr last ↦
                 let no_onward : b (onward j) ≡ false = false_from_ne_true (b (onward j)) (λ there.
                 let again = found regions stride numbers owners k corner (onward j) whole (few_onward j) (there, ap b (onward_onward j) ∙ no_across) in
                 last.0 again.0 (there_is numbers owners k (out_number stride corner (onward j)) turns.straight again.0 (sym straight) again.1)) in
                 let at = found regions stride numbers owners k corner j whole ends.few (inward.0, no_onward) in
-                let place : at.0 ≡ n = last.1 at.0 (there_is numbers owners k (out_number stride corner j) turns.left at.0 (sym left) at.1) in
+                let place : at.0 ≡ way / 4 = last.1.0 at.0 (there_is numbers owners k (out_number stride corner j) turns.left at.0 (sym left) at.1) in
                 record {
                   place = j;
                   few = ends.few;
                   there = subst (λ (i : ℕ). IsThere numbers owners k (out_number stride corner j) i) place at.1;
+                  side = last.1.1 ∙ ap (λ (x : ℕ). x % 4) left;
                   leads = inr (inr (refl, no_across, no_onward));
                 }
           ]

@@ -14,3 +14,5 @@ pub mod RowLemmas
 pub mod CellLemmas
 pub mod BuildLemmas
 pub mod SlotLemmas
+pub mod WalkLemmas
+pub mod MarkLemmas

@@ -1,6 +1,6 @@
 -- Sides of cells as boundary edges.
-use Rattle.std.proofs.Common.{◌≡◌, ℕ, zero, suc, ◌+◌, ◌-◌, ◌<◌, refl, ap, sym, ◌∙◌, subst, arith, lit<}
-use Rattle.std.specs.Prelude.{◌/◌, ◌%◌, ◌==◌}
+use Rattle.std.proofs.Common.{◌≡◌, ℕ, zero, suc, ◌+◌, ◌<◌, refl, ap, sym, ◌∙◌, subst, arith, lit<}
+use Rattle.std.specs.Prelude.{◌%◌, ◌==◌}
 use Rattle.std.proofs.lemmas.Bool.{eq-eqb, ne_eqb}
 use Rattle.cell_base.specs.Raster.{Place}
 use Rattle.region_label.specs.Labelling.{RegionTable, IsInRegion}
@@ -133,15 +133,6 @@ pub edge_is : (a b : Place) (s t : ℕ) → s < 4 → t < 4 → edge_at a s ≡ 
 edge_is a b s t few_s few_t same =
     let cells : a ≡ b = left_is b a t few_t (subst (λ (e : Edge). HasOnLeft e a) same (on_left a s few_s)) in
     (cells, same_side b s t few_s few_t (sym (ap (λ (p : Place). edge_at p s) cells) ∙ same))
-
--- a side by sums
-pub side_by_sums : (cell : Place) (side : ℕ) → side < 4
-    → edge_at cell side ≡ ((cell.0 + (side + 1) / 2 % 2, cell.1 + side / 2), (cell.0 + 1 - side / 2, cell.1 + (side + 1) / 2 % 2))
-side_by_sums cell zero few = grind (arith)
-side_by_sums cell (suc zero) few = grind (arith)
-side_by_sums cell (suc (suc zero)) few = grind (arith)
-side_by_sums cell (suc (suc (suc zero))) few = grind (arith)
-side_by_sums cell (suc (suc (suc (suc k)))) few = absurd (omega (arith, few))
 
 -- the lower and the upper side are level
 level_side : (cell : Place) (side : ℕ) → side < 4 → is_level (edge_at cell side) ≡ (side % 2 == 1)

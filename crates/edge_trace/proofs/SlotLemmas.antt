@@ -9,7 +9,7 @@ use Rattle.std.proofs.lemmas.Option.{get_or_from_slice_get, same_Some, slice_get
 use Rattle.cell_base.proofs.PlaceLemmas.{element_at}
 use Rattle.region_label.proofs.ListLemmas.{at_push_cases, slice_get-set_other, slice_get-set_same}
 use Rattle.edge_trace.specs.Inner.Sides.{AreRising}
-use Rattle.edge_trace.specs.Inner.Links.{AreFollowed, AreFoundFrom, AreNoted, AreSlots, AreTurns, Follows, IsAbsent, IsCut, IsFollower, IsIfThere, IsLeft, IsPowerOfTwo, IsRight, IsStraight, IsThere}
+use Rattle.edge_trace.specs.Inner.Links.{AreFollowed, AreFoundFrom, AreNoted, AreSlots, AreTurns, Follows, IsAbsent, IsCut, IsFollower, IsIfThere, IsLeft, IsPowerOfTwo, IsRight, IsStraight, IsThere, IsWayTo}
 use Rattle.edge_trace.specs.declared.links.Turns.{Turns}
 
 pub masked : (m n bits : ℕ) → m ≡ 2 ^ bits → bit_and n (m - 1) ≡ n % m
@@ -110,33 +110,37 @@ there_if stride numbers owners slots e x k slot t are found at is near i there =
 absent_if : (numbers owners : List ℕ) (k t j : ℕ) → IsIfThere numbers owners k t j → ¬ IsThere numbers owners k t j → IsAbsent numbers owners k t
 absent_if numbers owners k t j only none i there = none (subst (λ (n : ℕ). IsThere numbers owners k t n) (only i there) there)
 
+-- a way to what stands at an index
+pub way_there : (numbers owners : List ℕ) (k t j way : ℕ) → way / 4 ≡ j → way % 4 ≡ t % 4 → IsThere numbers owners k t j → IsWayTo numbers owners k t way
+way_there numbers owners k t j way index side there = (subst (λ (i : ℕ). IsThere numbers owners k t i) (sym index) there, side)
+
 -- what follows a side, told by what was read
-follows_read : (stride : ℕ) (numbers owners : List ℕ) (i x k j : ℕ) (turns : Turns) → slice_get numbers i ≡ Some x → slice_get owners i ≡ Some k → AreTurns stride x turns → IsFollower numbers owners k turns j → Follows stride numbers owners i j
-follows_read stride numbers owners i x k j turns at_x at_k are follower y m at_y at_m =
+follows_read : (stride : ℕ) (numbers owners : List ℕ) (i x k way : ℕ) (turns : Turns) → slice_get numbers i ≡ Some x → slice_get owners i ≡ Some k → AreTurns stride x turns → IsFollower numbers owners k turns way → Follows stride numbers owners i way
+follows_read stride numbers owners i x k way turns at_x at_k are follower y m at_y at_m =
     let same_x : x ≡ y = same_Some x y (sym at_x ∙ at_y) in
     let same_k : k ≡ m = same_Some k m (sym at_k ∙ at_m) in
-    (turns, subst (λ (n : ℕ). AreTurns stride n turns) same_x are, subst (λ (n : ℕ). IsFollower numbers owners n turns j) same_k follower)
+    (turns, subst (λ (n : ℕ). AreTurns stride n turns) same_x are, subst (λ (n : ℕ). IsFollower numbers owners n turns way) same_k follower)
 
-pub follows_right : (stride : ℕ) (numbers owners : List ℕ) (e x k j : ℕ) (turns : Turns) → slice_get numbers e ≡ Some x → slice_get owners e ≡ Some k → AreTurns stride x turns → IsThere numbers owners k turns.right j → Follows stride numbers owners e j
-follows_right stride numbers owners e x k j turns at_x at_k are there = follows_read stride numbers owners e x k j turns at_x at_k are (inl there)
+pub follows_right : (stride : ℕ) (numbers owners : List ℕ) (e x k way : ℕ) (turns : Turns) → slice_get numbers e ≡ Some x → slice_get owners e ≡ Some k → AreTurns stride x turns → IsWayTo numbers owners k turns.right way → Follows stride numbers owners e way
+follows_right stride numbers owners e x k way turns at_x at_k are there = follows_read stride numbers owners e x k way turns at_x at_k are (inl there)
 
-pub follows_straight : (stride : ℕ) (numbers owners slots : List ℕ) (e x k slot j : ℕ) (turns : Turns) → AreSlots numbers slots → AreFoundFrom stride numbers slots e → slice_get numbers e ≡ Some x → slice_get owners e ≡ Some k → AreTurns stride x turns → slot ≡ turns.right % length slots → ¬ IsThere numbers owners k turns.right (get_or slots slot 0) → IsThere numbers owners k turns.straight j → Follows stride numbers owners e j
-follows_straight stride numbers owners slots e x k slot j turns are_slots found at_x at_k are is_slot none there =
+pub follows_straight : (stride : ℕ) (numbers owners slots : List ℕ) (e x k slot way : ℕ) (turns : Turns) → AreSlots numbers slots → AreFoundFrom stride numbers slots e → slice_get numbers e ≡ Some x → slice_get owners e ≡ Some k → AreTurns stride x turns → slot ≡ turns.right % length slots → ¬ IsThere numbers owners k turns.right (get_or slots slot 0) → IsWayTo numbers owners k turns.straight way → Follows stride numbers owners e way
+follows_straight stride numbers owners slots e x k slot way turns are_slots found at_x at_k are is_slot none there =
     let only = there_if stride numbers owners slots e x k slot turns.right are_slots found at_x is_slot (right_near stride (x % 4) x turns.right are.right) in
-    follows_read stride numbers owners e x k j turns at_x at_k are (inr (absent_if numbers owners k turns.right (get_or slots slot 0) only none, inl there))
+    follows_read stride numbers owners e x k way turns at_x at_k are (inr (absent_if numbers owners k turns.right (get_or slots slot 0) only none, inl there))
 
-pub follows_left : (stride : ℕ) (numbers owners slots : List ℕ) (e x k slot ahead last : ℕ) (turns : Turns) → 1 ≤ stride → AreSlots numbers slots → AreFoundFrom stride numbers slots e → slice_get numbers e ≡ Some x → slice_get owners e ≡ Some k → AreTurns stride x turns → slot ≡ turns.right % length slots → ¬ IsThere numbers owners k turns.right (get_or slots slot 0) → ahead ≡ turns.straight % length slots → ¬ IsThere numbers owners k turns.straight (get_or slots ahead 0) → last ≡ turns.left % length slots → Follows stride numbers owners e (get_or slots last 0)
-follows_left stride numbers owners slots e x k slot ahead last turns some are_slots found at_x at_k are is_slot none is_ahead none_ahead is_last =
+pub follows_left : (stride : ℕ) (numbers owners slots : List ℕ) (e x k slot ahead last way : ℕ) (turns : Turns) → 1 ≤ stride → AreSlots numbers slots → AreFoundFrom stride numbers slots e → slice_get numbers e ≡ Some x → slice_get owners e ≡ Some k → AreTurns stride x turns → slot ≡ turns.right % length slots → ¬ IsThere numbers owners k turns.right (get_or slots slot 0) → ahead ≡ turns.straight % length slots → ¬ IsThere numbers owners k turns.straight (get_or slots ahead 0) → last ≡ turns.left % length slots → way / 4 ≡ get_or slots last 0 → way % 4 ≡ turns.left % 4 → Follows stride numbers owners e way
+follows_left stride numbers owners slots e x k slot ahead last way turns some are_slots found at_x at_k are is_slot none is_ahead none_ahead is_last index side =
     let only = there_if stride numbers owners slots e x k slot turns.right are_slots found at_x is_slot (right_near stride (x % 4) x turns.right are.right) in
     let only_ahead = there_if stride numbers owners slots e x k ahead turns.straight are_slots found at_x is_ahead (straight_near stride (x % 4) x turns.straight are.straight some) in
-    let only_last = there_if stride numbers owners slots e x k last turns.left are_slots found at_x is_last (left_near stride (x % 4) x turns.left are.left) in
-    follows_read stride numbers owners e x k (get_or slots last 0) turns at_x at_k are (inr (absent_if numbers owners k turns.right (get_or slots slot 0) only none, inr (absent_if numbers owners k turns.straight (get_or slots ahead 0) only_ahead none_ahead, only_last)))
+    let only_last = subst (λ (j : ℕ). IsIfThere numbers owners k turns.left j) (sym index) (there_if stride numbers owners slots e x k last turns.left are_slots found at_x is_last (left_near stride (x % 4) x turns.left are.left)) in
+    follows_read stride numbers owners e x k way turns at_x at_k are (inr (absent_if numbers owners k turns.right (get_or slots slot 0) only none, inr (absent_if numbers owners k turns.straight (get_or slots ahead 0) only_ahead none_ahead, (only_last, side))))
 
 -- one more side is linked
-pub followed_push : (stride : ℕ) (numbers owners next : List ℕ) (j : ℕ) → AreFollowed stride numbers owners next → length next < length numbers → Follows stride numbers owners (length next) j → AreFollowed stride numbers owners (next ++ j ∷ [])
-followed_push stride numbers owners next j are within follows = record {
-  within = omega (arith, length-append next (j ∷ []), within);
-  follows = λ i m at. elim (at_push_cases next j i m at) [
+pub followed_push : (stride : ℕ) (numbers owners ways : List ℕ) (j : ℕ) → AreFollowed stride numbers owners ways → length ways < length numbers → Follows stride numbers owners (length ways) j → AreFollowed stride numbers owners (ways ++ j ∷ [])
+followed_push stride numbers owners ways j are within follows = record {
+  within = omega (arith, length-append ways (j ∷ []), within);
+  follows = λ i m at. elim (at_push_cases ways j i m at) [
     | inl old ↦ are.follows i m old
     | inr new ↦ subst (λ (n : ℕ). Follows stride numbers owners i n) (sym new.1) (subst (λ (n : ℕ). Follows stride numbers owners n j) (sym new.0) follows)
   ];

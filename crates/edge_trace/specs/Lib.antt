@@ -2,4 +2,5 @@ pub mod Edge
 pub mod Crossing
 pub mod EdgeTable
 pub mod EdgeOrder
+pub mod Walk
 pub mod Inner

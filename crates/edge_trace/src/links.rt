@@ -1,7 +1,7 @@
 // Links each edge to the one that follows it.
-ghost use Rattle.std.specs.Prelude.{◌≡◌, ◌+◌, ◌-◌, ◌*◌, ◌%◌, ◌^◌, ◌<◌, ◌≤◌, ◌↔◌, ℕ, Some, IfOk, IsTrue, OnOk, length, replicate, slice_get};
+ghost use Rattle.std.specs.Prelude.{◌≡◌, ◌+◌, ◌-◌, ◌*◌, ◌/◌, ◌%◌, ◌^◌, ◌<◌, ◌≤◌, ◌↔◌, ℕ, Some, IfOk, IsTrue, OnOk, length, replicate, slice_get};
 ghost use Rattle.edge_trace.specs.Inner.Sides.{AreRising};
-ghost use Rattle.edge_trace.specs.Inner.Links.{AreFollowed, AreFoundFrom, AreInRows, AreRoomy, AreSlots, AreTurns, AreWays};
+ghost use Rattle.edge_trace.specs.Inner.Links.{AreFollowed, AreFoundFrom, AreInRows, AreRoomy, AreSlots, AreTurnSteps, AreTurns};
 ghost use Rattle.edge_trace.specs.Inner.Links.{Follows, IsCut, IsPowerOfTwo, IsRowOf, IsThere, IsWindow, Moves};
 
 use crate::sides::Sides;
@@ -19,20 +19,20 @@ pub(crate) struct Turns {
 // By the four sides what is added to a side's number for those of its turns, more by `off` so that none is negative. They
 // are read where a branch would be as often wrong as right.
 #[derive(Clone, Copy)]
-pub(crate) struct Ways {
+pub(crate) struct TurnSteps {
     pub(crate) off: u32,
     pub(crate) right: [u32; 4],
     pub(crate) straight: [u32; 4],
     pub(crate) left: [u32; 4],
 }
 
-// The ways of a stride.
-fn ways_of(stride: u32) -> Ways
+// The steps for a stride.
+fn turn_steps(stride: u32) -> TurnSteps
     requires { stride < 2 ^ 28 }
-    ensures { AreWays stride result }
+    ensures { AreTurnSteps stride result }
 {
     let row = 4 * stride;
-    Ways {
+    TurnSteps {
         off: row + 5,
         right: [2 * row + 4, 2 * row + 8, 8, 0],
         straight: [2 * row + 5, row + 9, 5, row + 1],
@@ -41,17 +41,17 @@ fn ways_of(stride: u32) -> Ways
 }
 
 // The sides that may follow a side.
-fn turns_of(number: u32, stride: u32, ways: &Ways) -> Turns
-    requires ways { AreWays stride ways.now }
+fn turns_of(number: u32, stride: u32, steps: &TurnSteps) -> Turns
+    requires steps { AreTurnSteps stride steps.now }
     requires low { 4 * stride + 4 ≤ number }
     requires high { number + 8 * stride + 8 < 2 ^ 32 }
     ensures { AreTurns stride number result }
 {
     let side = (number % 4) as usize;
     Turns {
-        right: number + ways.right[side] - ways.off,
-        straight: number + ways.straight[side] - ways.off,
-        left: number + ways.left[side] - ways.off,
+        right: number + steps.right[side] - steps.off,
+        straight: number + steps.straight[side] - steps.off,
+        left: number + steps.left[side] - steps.off,
     }
 }
 
@@ -131,12 +131,22 @@ fn stands(sides: &Sides, at: u32, number: u32, k: u32) -> bool
     (sides.numbers[at as usize] == number) & (sides.owners[at as usize] == k)
 }
 
-// The index of the side that follows the one at an index.
-fn follow(sides: &Sides, stride: u32, ways: &Ways, slots: &[u32], e: usize) -> u32
+// The way to a side: the index of its number, and which side of its cell it is, as one number.
+fn way_to(at: u32, number: u32) -> u32
+    requires { at < 2 ^ 30 }
+    ensures index { result / 4 ≡ at }
+    ensures side { result % 4 ≡ number % 4 }
+{
+    4 * at + number % 4
+}
+
+// The way to the side that follows the one at an index.
+fn follow(sides: &Sides, stride: u32, steps: &TurnSteps, slots: &[u32], e: usize) -> u32
     requires sized { length sides.now.owners.items ≡ length sides.now.numbers.items }
     requires roomy { AreRoomy stride sides.now.numbers.items }
-    requires ways { AreWays stride ways.now }
+    requires steps { AreTurnSteps stride steps.now }
     requires slots { AreSlots sides.now.numbers.items slots.now }
+    requires few { length sides.now.numbers.items < 2 ^ 29 }
     requires wide { 1 ≤ stride }
     requires e { e < length sides.now.numbers.items }
     requires found { AreFoundFrom stride sides.now.numbers.items slots.now e }
@@ -144,48 +154,53 @@ fn follow(sides: &Sides, stride: u32, ways: &Ways, slots: &[u32], e: usize) -> u
 {
     let number = sides.numbers[e];
     let k = sides.owners[e];
-    let turns = turns_of(number, stride, ways);
+    let turns = turns_of(number, stride, steps);
     let right = slots[slot_of(slots, turns.right)];
     let straight = slots[slot_of(slots, turns.straight)];
     let left = slots[slot_of(slots, turns.left)];
     let goes_right = stands(sides, right, turns.right, k);
     let goes_straight = stands(sides, straight, turns.straight, k);
+    // all three at once: a jump by the turn would be as often wrong as right
+    let to_right = way_to(right, turns.right);
+    let to_straight = way_to(straight, turns.straight);
+    let to_left = way_to(left, turns.left);
     if goes_right {
-        return right;
+        return to_right;
     }
     if goes_straight {
-        return straight;
+        return to_straight;
     }
-    left
+    to_left
 }
 
 // Links the sides of a row.
 fn link_row(
     sides: &Sides,
     stride: u32,
-    ways: &Ways,
+    steps: &TurnSteps,
     window: &Window,
-    next: &mut Vec<u32>,
+    ways: &mut Vec<u32>,
     end: u32,
 ) -> Result<(), AllocError>
     requires sized { length sides.now.owners.items ≡ length sides.now.numbers.items }
     requires rising { AreRising sides.now.numbers.items }
     requires roomy { AreRoomy stride sides.now.numbers.items }
-    requires ways { AreWays stride ways.now }
+    requires steps { AreTurnSteps stride steps.now }
+    requires few { length sides.now.numbers.items < 2 ^ 29 }
     requires wide { 1 ≤ stride }
     requires window { IsWindow sides.now.numbers.items window.now }
-    requires here { IsRowOf stride sides.now.numbers.items window.now end (length next.old.items) }
-    requires followed { AreFollowed stride sides.now.numbers.items sides.now.owners.items next.old.items }
-    ensures followed { OnOk result (AreFollowed stride sides.now.numbers.items sides.now.owners.items next.new.items) }
-    ensures cut { OnOk result (IsCut sides.now.numbers.items end (length next.new.items)) }
+    requires here { IsRowOf stride sides.now.numbers.items window.now end (length ways.old.items) }
+    requires followed { AreFollowed stride sides.now.numbers.items sides.now.owners.items ways.old.items }
+    ensures followed { OnOk result (AreFollowed stride sides.now.numbers.items sides.now.owners.items ways.new.items) }
+    ensures cut { OnOk result (IsCut sides.now.numbers.items end (length ways.new.items)) }
 {
-    'linking: while next.len() < sides.numbers.len() && sides.numbers[next.len()] < end {
-        next.push(follow(sides, stride, ways, &window.slots, next.len()))?;
+    'linking: while ways.len() < sides.numbers.len() && sides.numbers[ways.len()] < end {
+        ways.push(follow(sides, stride, steps, &window.slots, ways.len()))?;
     }
     Ok(())
 }
 
-// By edge the edge that follows it, for the edges of so many rows. The only error is want of memory.
+// By edge the way to the edge that follows it, for the edges of so many rows. The only error is want of memory.
 pub(crate) fn links(
     alloc: Global,
     sides: &Sides,
@@ -195,21 +210,21 @@ pub(crate) fn links(
     requires sized { length sides.now.owners.items ≡ length sides.now.numbers.items }
     requires rising { AreRising sides.now.numbers.items }
     requires roomy { AreRoomy stride sides.now.numbers.items }
-    requires few { length sides.now.numbers.items < 2 ^ 32 }
+    requires few { length sides.now.numbers.items < 2 ^ 29 }
     requires power { IsPowerOfTwo (16 * stride) }
     requires wide { 3 ≤ stride }
     requires room { (nrows + 3) * (4 * stride) + 4 < 2 ^ 32 }
     requires rows { AreInRows stride nrows sides.now.numbers.items }
-    ensures linked { IfOk result (λ next. length next.items ≡ length sides.now.numbers.items) }
-    ensures follows { IfOk result (λ next.
-        AreFollowed stride sides.now.numbers.items sides.now.owners.items next.items) }
+    ensures linked { IfOk result (λ ways. length ways.items ≡ length sides.now.numbers.items) }
+    ensures follows { IfOk result (λ ways.
+        AreFollowed stride sides.now.numbers.items sides.now.owners.items ways.items) }
 {
-    let mut next = Vec::with_capacity(alloc, sides.numbers.len())?;
+    let mut ways = Vec::with_capacity(alloc, sides.numbers.len())?;
     if sides.numbers.is_empty() {
-        return Ok(next);
+        return Ok(ways);
     }
     let row = 4 * stride;
-    let ways = ways_of(stride);
+    let steps = turn_steps(stride);
     let mut window = Window {
         slots: empty_slots(alloc, 4 * row as usize)?,
         low: 0,
@@ -221,7 +236,7 @@ pub(crate) fn links(
         let here = (at + 1) * row;
         window.forget(&sides.numbers, here.saturating_sub(row + 5));
         window.note(&sides.numbers, here + 2 * row + 4);
-        link_row(sides, stride, &ways, &window, &mut next, here + row)?;
+        link_row(sides, stride, &steps, &window, &mut ways, here + row)?;
     }
-    Ok(next)
+    Ok(ways)
 }

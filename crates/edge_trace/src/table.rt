@@ -3,17 +3,17 @@ ghost use Rattle.cell_base.specs.Raster.{most_cells};
 ghost use Rattle.edge_trace.specs.Edge.{Corner as Point, Edge, is_level};
 ghost use Rattle.edge_trace.specs.EdgeOrder.{AreInOrder};
 ghost use Rattle.edge_trace.specs.EdgeTable.{IsCellAt, IsEdgeAt, IsEdgeTable, IsFollowedBy};
-ghost use Rattle.edge_trace.specs.Inner.Sides.{edge_at};
-ghost use Rattle.edge_trace.specs.Inner.Table.{IsPower};
+ghost use Rattle.edge_trace.specs.Inner.Table.{IsPower, IsTable, table_of};
 
 use crate::links::links;
+use crate::side_numbers::{Side, SideNumbers};
 use crate::sides::Sides;
 use region_label::Regions;
 use std::alloc::{AllocError, Global};
 use std::marker::Model;
 
 /// A point of the lattice of cell corners: the cell (r, c) lies between the corners (r, c) and (r + 1, c + 1).
-#[derive(Clone, Copy, Debug, PartialEq, Eq)]
+#[derive(Clone, Copy, Debug, Default, PartialEq, Eq)]
 pub struct Corner {
     pub row: u32,
     pub col: u32,
@@ -22,12 +22,9 @@ pub struct Corner {
 /// The boundary edges of all components of a grid, and with each the one that follows it.
 #[derive(Drop)]
 pub struct EdgeTable {
-    // the stride of the numbers is 2 to this power, so that no call divides by it
-    shift: u32,
-    stride: u32,
-    // the side of a cell that each edge runs along, cell and side as one number: there can be 67 million edges
-    numbers: Vec<u32>,
-    next: Vec<u32>,
+    sides: SideNumbers,
+    // by edge 4 times the number of its follower, and the side that the follower runs along: a walk reads nothing else
+    ways: Vec<u32>,
 }
 
 impl Model for EdgeTable {
@@ -36,17 +33,9 @@ impl Model for EdgeTable {
 
     ghost Value = { TableOfEdges };
 
-    ghost view = { λ table. table_of table.stride table.numbers.items table.next.items };
+    ghost view = { λ table. table_of table.sides.stride table.sides.numbers.items table.ways.items };
 
-    ghost invariant = { λ table. IsTable table.shift table.stride table.numbers.items table.next.items };
-}
-
-// A side of a cell: 0 its left, 1 its lower, 2 its right and 3 its upper one.
-#[derive(Clone, Copy)]
-struct Side {
-    row: u32,
-    col: u32,
-    side: u32,
+    ghost invariant = { λ table. IsTable table.sides.shift table.sides.stride table.sides.numbers.items table.ways.items };
 }
 
 // A power of two, and how many times two it is.
@@ -79,12 +68,14 @@ impl EdgeTable {
         let table = regions.table();
         let Stride { shift, stride } = stride_for(regions.ncols());
         let sides = Sides::find(alloc, regions, table, stride)?;
-        let next = links(alloc, &sides, stride, table.nrows())?;
+        let ways = links(alloc, &sides, stride, table.nrows())?;
         Ok(EdgeTable {
-            shift,
-            stride,
-            numbers: sides.numbers,
-            next,
+            sides: SideNumbers {
+                shift,
+                stride,
+                numbers: sides.numbers,
+            },
+            ways,
         })
     }
 
@@ -92,27 +83,7 @@ impl EdgeTable {
     pub fn count(&self) -> u32
         ensures { result ≡ length self.now.edges }
     {
-        self.numbers.len() as u32
-    }
-
-    // The side that an edge runs along.
-    fn side_of(&self, e: u32) -> Side
-        requires { e < length self.now.edges }
-        ensures cell { IsCellAt self.now e (result.row, result.col) }
-        ensures edge { IsEdgeAt self.now e (edge_at (result.row, result.col) result.side) }
-        ensures side { result.side < 4 }
-        ensures row { result.row < 2 ^ 31 }
-        ensures col { result.col < 2 ^ 31 }
-    {
-        let number = self.numbers[e as usize];
-        let cell = number / 4;
-        let row = cell >> self.shift;
-        let col = cell - row * self.stride;
-        Side {
-            row: row - 1,
-            col: col - 1,
-            side: number % 4,
-        }
+        self.sides.numbers.len() as u32
     }
 
     /// The corner where an edge begins.
@@ -120,12 +91,7 @@ impl EdgeTable {
         requires { e < length self.now.edges }
         ensures { (end : Point) × IsEdgeAt self.now e ((result.row, result.col), end) }
     {
-        let Side { row, col, side } = self.side_of(e);
-        // a sum costs less than a jump by the side
-        Corner {
-            row: row + (side + 1) / 2 % 2,
-            col: col + side / 2,
-        }
+        self.sides.side_of(e).start()
     }
 
     /// The corner where an edge ends.
@@ -133,11 +99,7 @@ impl EdgeTable {
         requires { e < length self.now.edges }
         ensures { (start : Point) × IsEdgeAt self.now e (start, (result.row, result.col)) }
     {
-        let Side { row, col, side } = self.side_of(e);
-        Corner {
-            row: row + 1 - side / 2,
-            col: col + (side + 1) / 2 % 2,
-        }
+        self.sides.side_of(e).end()
     }
 
     /// Whether an edge runs along a row.
@@ -146,7 +108,7 @@ impl EdgeTable {
         ensures { (edge : Edge) × IsEdgeAt self.now e edge × (result ≡ is_level edge) }
     {
         // along the lower side, 1, or the upper, 3
-        self.numbers[e as usize] % 2 == 1
+        self.sides.numbers[e as usize] % 2 == 1
     }
 
     /// The cell on the left of an edge.
@@ -154,7 +116,7 @@ impl EdgeTable {
         requires { e < length self.now.edges }
         ensures { IsCellAt self.now e result }
     {
-        let Side { row, col, .. } = self.side_of(e);
+        let Side { row, col, .. } = self.sides.side_of(e);
         (row, col)
     }
 
@@ -163,6 +125,14 @@ impl EdgeTable {
         requires { e < length self.now.edges }
         ensures { IsFollowedBy self.now e result }
     {
-        self.next[e as usize]
+        self.ways[e as usize] / 4
+    }
+
+    // The sides that the edges run along, and by edge the way to its follower.
+    pub(crate) fn into_parts(self) -> (SideNumbers, Vec<u32>)
+        ensures table { self ≡ table_of result.0.stride result.0.numbers.items result.1.items }
+        ensures kept { IsTable result.0.shift result.0.stride result.0.numbers.items result.1.items }
+    {
+        (self.sides, self.ways)
     }
 }

@@ -1,7 +1,7 @@
 -- How edges follow one another.
-use Rattle.std.specs.Prelude.{◌≡◌, ℕ, zero, suc, ◌+◌, ◌-◌, ◌*◌, ◌%◌, ◌^◌, ◌<◌, ◌≤◌, ◌⊎◌, List, [], ◌∷◌, Some, length, slice_get}
+use Rattle.std.specs.Prelude.{◌≡◌, ℕ, zero, suc, ◌+◌, ◌-◌, ◌*◌, ◌/◌, ◌%◌, ◌^◌, ◌<◌, ◌≤◌, ◌⊎◌, List, [], ◌∷◌, Some, length, slice_get}
 use Rattle.edge_trace.specs.declared.links.Turns.{Turns}
-use Rattle.edge_trace.specs.declared.links.Ways.{Ways}
+use Rattle.edge_trace.specs.declared.links.TurnSteps.{TurnSteps}
 use Rattle.edge_trace.specs.declared.links.Window.{Window}
 
 -- from a side to the side that goes on from its end to the right, straight on and to the left, by their numbers: round
@@ -44,28 +44,37 @@ IsIfThere numbers owners k x j = (i : ℕ) → IsThere numbers owners k x i → 
 abbrev pub IsAbsent : List ℕ → List ℕ → ℕ → ℕ → Type 0
 IsAbsent numbers owners k x = (i : ℕ) → ¬ IsThere numbers owners k x i
 
--- the side to the right, else the one straight on, else the one to the left
+-- a way is 4 times the index to which it leads, and the side of a number: of one that stands there, and the component
+-- beside it; or there if anywhere
+
+abbrev pub IsWayTo : List ℕ → List ℕ → ℕ → ℕ → ℕ → Type 0
+IsWayTo numbers owners k x way = IsThere numbers owners k x (way / 4) × (way % 4 ≡ x % 4)
+
+abbrev pub IsWayIfThere : List ℕ → List ℕ → ℕ → ℕ → ℕ → Type 0
+IsWayIfThere numbers owners k x way = IsIfThere numbers owners k x (way / 4) × (way % 4 ≡ x % 4)
+
+-- the way to the side to the right, else to the one straight on, else to the one to the left
 abbrev pub IsFollower : List ℕ → List ℕ → ℕ → Turns → ℕ → Type 0
-IsFollower numbers owners k turns j = IsThere numbers owners k turns.right j
-    ⊎ (IsAbsent numbers owners k turns.right × (IsThere numbers owners k turns.straight j
-    ⊎ (IsAbsent numbers owners k turns.straight × IsIfThere numbers owners k turns.left j)))
+IsFollower numbers owners k turns way = IsWayTo numbers owners k turns.right way
+    ⊎ (IsAbsent numbers owners k turns.right × (IsWayTo numbers owners k turns.straight way
+    ⊎ (IsAbsent numbers owners k turns.straight × IsWayIfThere numbers owners k turns.left way)))
 
--- the side at the one index is followed by that at the other
+-- the side at the index is followed by that to which the way leads
 abbrev pub Follows : ℕ → List ℕ → List ℕ → ℕ → ℕ → Type 0
-Follows stride numbers owners i j = (x k : ℕ) → slice_get numbers i ≡ Some x → slice_get owners i ≡ Some k
-    → (turns : Turns) × AreTurns stride x turns × IsFollower numbers owners k turns j
+Follows stride numbers owners i way = (x k : ℕ) → slice_get numbers i ≡ Some x → slice_get owners i ≡ Some k
+    → (turns : Turns) × AreTurns stride x turns × IsFollower numbers owners k turns way
 
--- each side of a first part is followed by the one that is told
-pub record AreFollowed (stride : ℕ) (numbers owners next : List ℕ) : Type 0 where
-  pub within : length next ≤ length numbers
-  pub follows : (i j : ℕ) → slice_get next i ≡ Some j → Follows stride numbers owners i j
+-- each side of a first part is followed by the one to which its way leads
+pub record AreFollowed (stride : ℕ) (numbers owners ways : List ℕ) : Type 0 where
+  pub within : length ways ≤ length numbers
+  pub follows : (i way : ℕ) → slice_get ways i ≡ Some way → Follows stride numbers owners i way
 
 -- what to add to a side's number, and then to take off, for the numbers of its turns
-pub record AreWays (stride : ℕ) (ways : Ways) : Type 0 where
-  pub off : ways.off ≡ 4 * stride + 5
-  pub right : ways.right ≡ (8 * stride + 4) ∷ (8 * stride + 8) ∷ 8 ∷ 0 ∷ []
-  pub straight : ways.straight ≡ (8 * stride + 5) ∷ (4 * stride + 9) ∷ 5 ∷ (4 * stride + 1) ∷ []
-  pub left : ways.left ≡ (4 * stride + 6) ∷ (4 * stride + 6) ∷ (4 * stride + 6) ∷ (4 * stride + 2) ∷ []
+pub record AreTurnSteps (stride : ℕ) (steps : TurnSteps) : Type 0 where
+  pub off : steps.off ≡ 4 * stride + 5
+  pub right : steps.right ≡ (8 * stride + 4) ∷ (8 * stride + 8) ∷ 8 ∷ 0 ∷ []
+  pub straight : steps.straight ≡ (8 * stride + 5) ∷ (4 * stride + 9) ∷ 5 ∷ (4 * stride + 1) ∷ []
+  pub left : steps.left ≡ (4 * stride + 6) ∷ (4 * stride + 6) ∷ (4 * stride + 6) ∷ (4 * stride + 2) ∷ []
 
 abbrev pub IsPowerOfTwo : ℕ → Type 0
 IsPowerOfTwo n = (bits : ℕ) × (n ≡ 2 ^ bits) × (bits < 32)

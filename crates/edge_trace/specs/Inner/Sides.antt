@@ -39,7 +39,7 @@ edge_of stride number = edge_at (cell_of stride number) (number % 4)
 pub record IsStride (ncols nrows stride : ℕ) : Type 0 where
   pub wide : ncols + 2 ≤ stride
   pub narrow : stride ≤ 2 ^ 27
-  pub few : (row : ℕ) → row ≤ nrows → (row + 1) * stride ≤ 2 ^ 28
+  pub few : (row : ℕ) → row ≤ nrows → (row + 1) * stride ≤ 2 ^ 27
 
 -- the number is that of a side of a component, and this component stands at the index
 pub record IsSideOf (regions : RegionTable) (stride : ℕ) (owners : List ℕ) (i number : ℕ) : Type 0 where

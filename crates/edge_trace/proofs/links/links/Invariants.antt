@@ -9,6 +9,6 @@ invariant-loop-at l = record {
   sized : length l.window.slots.items ≡ 16 * l.stride;
   low : l.window.low ≤ l.at * (4 * l.stride) - (4 * l.stride + 5);
   high : l.window.high ≤ (l.at + 2) * (4 * l.stride) + 4;
-  followed : AreFollowed l.stride l.sides.numbers.items l.sides.owners.items l.next.items;
-  cut : IsCut l.sides.numbers.items ((l.at + 1) * (4 * l.stride)) (length l.next.items);
+  followed : AreFollowed l.stride l.sides.numbers.items l.sides.owners.items l.ways.items;
+  cut : IsCut l.sides.numbers.items ((l.at + 1) * (4 * l.stride)) (length l.ways.items);
 }

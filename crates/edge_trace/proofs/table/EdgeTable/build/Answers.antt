@@ -38,7 +38,7 @@ invariant_of-result c =
     let power : IsPower regions.numbers.ncols stride = subst (λ (n : ℕ). IsPower n stride) c.ncols.ensures.value c.stride_for-shift.ensures in
     let is = stride_is regions stride shape power in
     let whole = all_sides regions stride.stride c.in_ok-sides.sides shape is c.in_ok-sides.ensures in
-    table_kept regions stride c.in_ok-sides.sides.numbers.items c.in_ok-sides.sides.owners.items c.in_ok-next.next.items shape power whole c.in_ok-next.ensures.linked
+    table_kept regions stride c.in_ok-sides.sides.numbers.items c.in_ok-sides.sides.owners.items c.in_ok-ways.ways.items shape power whole c.in_ok-ways.ensures.follows c.in_ok-ways.ensures.linked
 
 pub returns-clause-table : goal.returns-clause-table
 returns-clause-table c =
@@ -48,7 +48,7 @@ returns-clause-table c =
     let power : IsPower regions.numbers.ncols stride = subst (λ (n : ℕ). IsPower n stride) c.ncols.ensures.value c.stride_for-shift.ensures in
     let is = stride_is regions stride shape power in
     let whole = all_sides regions stride.stride c.in_ok-sides.sides shape is c.in_ok-sides.ensures in
-    edge_table regions stride.stride c.in_ok-sides.sides.numbers.items c.in_ok-sides.sides.owners.items c.in_ok-next.next.items whole c.in_ok-next.ensures.follows c.in_ok-next.ensures.linked
+    edge_table regions stride.stride c.in_ok-sides.sides.numbers.items c.in_ok-sides.sides.owners.items c.in_ok-ways.ways.items whole c.in_ok-ways.ensures.follows c.in_ok-ways.ensures.linked
 
 pub returns-clause-order : goal.returns-clause-order
 returns-clause-order c =
@@ -58,7 +58,7 @@ returns-clause-order c =
     let power : IsPower regions.numbers.ncols stride = subst (λ (n : ℕ). IsPower n stride) c.ncols.ensures.value c.stride_for-shift.ensures in
     let is = stride_is regions stride shape power in
     let whole = all_sides regions stride.stride c.in_ok-sides.sides shape is c.in_ok-sides.ensures in
-    in_order regions stride.stride c.in_ok-sides.sides.numbers.items c.in_ok-sides.sides.owners.items c.in_ok-next.next.items whole
+    in_order regions stride.stride c.in_ok-sides.sides.numbers.items c.in_ok-sides.sides.owners.items c.in_ok-ways.ways.items whole
 
 pub links-requires-clause-power : goal.links-requires-clause-power
 links-requires-clause-power c =

@@ -11,10 +11,10 @@ pub returns : goal.returns
 returns c =
     let table = c.self.inside in
     let number = c.index.result.now in
-    let within : c.args.e < length table.numbers.items = omega
-    (arith, c.requires, ap (λ (t : EdgeTable). length t.edges) c.self.view_is, length-map table.numbers.items (edge_of table.stride)) in
-    let at = slice_get-get_or table.numbers.items c.args.e number within ∙ ap (λ (n : ℕ). Some n) (sym c.index.ensures) in (
-      edge_of table.stride number,
-      rw (← c.self.view_is) (slice_get-map (edge_of table.stride) table.numbers.items c.args.e ∙ ap (option_map (edge_of table.stride)) at),
-      sym (level_number table.stride number),
+    let within : c.args.e < length table.sides.numbers.items = omega
+    (arith, c.requires, ap (λ (t : EdgeTable). length t.edges) c.self.view_is, length-map table.sides.numbers.items (edge_of table.sides.stride)) in
+    let at = slice_get-get_or table.sides.numbers.items c.args.e number within ∙ ap (λ (n : ℕ). Some n) (sym c.index.ensures) in (
+      edge_of table.sides.stride number,
+      rw (← c.self.view_is) (slice_get-map (edge_of table.sides.stride) table.sides.numbers.items c.args.e ∙ ap (option_map (edge_of table.sides.stride)) at),
+      sym (level_number table.sides.stride number),
     )
