@@ -6,10 +6,9 @@ use Rattle.std.proofs.lemmas.List.{append-nil, append_assoc, drop-append-le, dro
 use Rattle.std.proofs.lemmas.Option.{unwrap_or-slice_get}
 use Rattle.edge_trace.specs.Edge.{Corner, Edge, is_level}
 use Rattle.edge_trace.specs.EdgeTable.{EdgeTable}
-use Rattle.edge_trace.specs.declared.table.Corner as coded
 use Rattle.ring_faces.specs.declared.cycles.Cycle.{Cycle}
 use Rattle.ring_faces.specs.Inner.Cycles.{number_after, numbers_from}
-use Rattle.ring_faces.specs.Ring.{points_of}
+use Rattle.ring_faces.specs.Inner.Lattice.{corner_of, corners_of}
 use Rattle.ring_faces.specs.Inner.Turns.{AddsTurn, at_turn, turns_after}
 use Rattle.ring_faces.specs.Inner.Tables.{edge_at, edges_from}
 use Rattle.ring_faces.specs.Inner.Chains.{AreRings, between, cycle_at, ring_along, ring_in}
@@ -84,11 +83,11 @@ between_new : (xs ys : List Corner) (a b : ℕ) → a ≡ length xs → b ≡ le
 between_new xs ys a b begin end = ap (take (b - a)) (drop-append-le a xs ys (omega arith) ∙ ap (λ (zs : List Corner). zs ++ ys)
     (drop_all a xs (omega arith))) ∙ take_all (b - a) ys (omega (arith, length-append xs ys))
 
-points_many : (corners : List coded.Corner) → length (points_of corners) ≡ length corners
-points_many corners = length-map corners (λ (corner : coded.Corner). (corner.row, corner.col))
+corners_many : (width : ℕ) (numbers : List ℕ) → length (corners_of width numbers) ≡ length numbers
+corners_many width numbers = length-map numbers (corner_of width)
 
-pub rings_begin : (table : EdgeTable) (corners : List coded.Corner) (starts : List ℕ) → corners ≡ [] → starts ≡ 0 ∷ [] → AreRings table [] corners starts
-rings_begin table corners starts none zeros = record {
+pub rings_begin : (width : ℕ) (table : EdgeTable) (corners starts : List ℕ) → corners ≡ [] → starts ≡ 0 ∷ [] → AreRings width table [] corners starts
+rings_begin width table corners starts none zeros = record {
   sized = ap length zeros;
   end = ap (λ (ns : List ℕ). slice_index ns 0) zeros ∙ sym (ap length none);
   in_rings = record {
@@ -120,15 +119,15 @@ cycle_before cycles cycle i less = cycle_got (cycles ++ cycle ∷ []) i ∙ get_
 cycle_last : (cycles : List Cycle) (cycle : Cycle) → cycle_at (cycles ++ cycle ∷ []) (length cycles) ≡ cycle
 cycle_last cycles cycle = cycle_got (cycles ++ cycle ∷ []) (length cycles) ∙ get_or_at cycles cycle [] (record { first = 0; edges = 0 }) (length cycles) refl
 
-pub rings_push : (table : EdgeTable) (cycles : List Cycle) (cycle : Cycle) (old new : List coded.Corner) (old_starts new_starts : List ℕ) → AreRings table cycles old old_starts
-    → points_of new ≡ points_of old ++ ring_along table cycle
-    → new_starts ≡ old_starts ++ length new ∷ [] → AreRings table (cycles ++ cycle ∷ []) new new_starts
-rings_push table cycles cycle old new old_starts new_starts are corners starts =
-    let xs = points_of old in
+pub rings_push : (width : ℕ) (table : EdgeTable) (cycles : List Cycle) (cycle : Cycle) (old new old_starts new_starts : List ℕ)
+    → AreRings width table cycles old old_starts → corners_of width new ≡ corners_of width old ++ ring_along table cycle
+    → new_starts ≡ old_starts ++ length new ∷ [] → AreRings width table (cycles ++ cycle ∷ []) new new_starts
+rings_push width table cycles cycle old new old_starts new_starts are corners starts =
+    let xs = corners_of width old in
     let ring = ring_along table cycle in
     let end = length new in
-    let longer : end ≡ length (xs ++ ring) = sym (points_many new) ∙ ap length corners in
-    let old_end : length xs ≡ length old = points_many old in
+    let longer : end ≡ length (xs ++ ring) = sym (corners_many width new) ∙ ap length corners in
+    let old_end : length xs ≡ length old = corners_many width old in
     let grown : length xs ≤ end = omega (arith, longer, length-append xs ring) in
     let many : length new_starts ≡ length old_starts + 1 = ap length starts ∙ length-append old_starts (end ∷ []) in
     let was : (i : ℕ) → i < length old_starts → slice_index new_starts i ≡ slice_index old_starts i = λ i less. ap
@@ -168,10 +167,10 @@ rings_push table cycles cycle old new old_starts new_starts are corners starts =
             ∙ are.each i before ∙ ap (ring_along table) (sym (cycle_before cycles cycle i before))
         | inr past ↦
             let at : i ≡ length cycles = omega (arith, less, past, cycles_many) in
-            let new_ring : ring_in new new_starts (length cycles) ≡ ring = ap (λ (ps : List Corner). between ps (slice_index new_starts (length cycles))
+            let new_ring : ring_in width new new_starts (length cycles) ≡ ring = ap (λ (ps : List Corner). between ps (slice_index new_starts (length cycles))
             (slice_index new_starts (length cycles + 1))) corners
             ∙ between_new xs ring _ _ begin (last ∙ longer) in
-            ap (ring_in new new_starts) at ∙ new_ring ∙ ap (ring_along table) (sym (cycle_last cycles cycle) ∙ ap (cycle_at (cycles ++ cycle ∷ [])) (sym at))
+            ap (ring_in width new new_starts) at ∙ new_ring ∙ ap (ring_along table) (sym (cycle_last cycles cycle) ∙ ap (cycle_at (cycles ++ cycle ∷ [])) (sym at))
       ];
     }
 
@@ -187,7 +186,7 @@ take_map f zero xs = refl
 take_map f (suc n) [] = refl
 take_map f (suc n) (x ∷ xs) = ap (λ ys. f x ∷ ys) (take_map f n xs)
 
-pub lent_corners : (corners : List coded.Corner) (from to : ℕ) → points_of (take (to - from) (drop from corners)) ≡ between (points_of corners) from to
-lent_corners corners from to =
-    let point : coded.Corner → Corner = λ corner. (corner.row, corner.col) in
-    sym (ap (take (to - from)) (drop_map point from corners) ∙ take_map point (to - from) (drop from corners))
+pub lent_corners : (width : ℕ) (numbers : List ℕ) (from to : ℕ)
+    → corners_of width (take (to - from) (drop from numbers)) ≡ between (corners_of width numbers) from to
+lent_corners width numbers from to = sym (ap (take (to - from)) (drop_map (corner_of width) from numbers)
+    ∙ take_map (corner_of width) (to - from) (drop from numbers))

@@ -1,22 +1,27 @@
 -- The canonical polygon of a component in the loose form, and how long and wide its rings are.
-use Rattle.std.proofs.Common.{ℕ, zero, suc, ◌+◌, ◌≤◌, Bool, true, false, [], ◌∷◌, Some, length, sym, ap, subst, arith, refl, ◌∙◌}
+use Rattle.std.proofs.Common.{ℕ, zero, suc, ◌+◌, ◌*◌, ◌<◌, ◌≤◌, Bool, true, false, [], ◌∷◌, Some, length, sym, ap, subst, arith, refl, ◌∙◌}
 use Rattle.std.specs.Prelude.{All, Contains}
 use Rattle.std.proofs.lemmas.List.Elements.{All-contains}
+use Rattle.std.proofs.Math.Nat.{mul-le-mul, mul-le-mul_left}
 use Rattle.cell_base.specs.Raster.{Place, IsRaster}
 use Rattle.cell_base.proofs.PlaceLemmas.{element_at, inside_from_value}
 use Rattle.region_label.specs.Labelling.{RegionTable, IsInRegion}
 use Rattle.region_label.proofs.RegionDeciders.{is_in_region}
 use Rattle.edge_trace.specs.Edge.{Corner, Edge, HasOnLeft}
+use Rattle.edge_trace.specs.EdgeTable.{EdgeTable, HoldsBoundaries}
 use Rattle.ring_faces.specs.Ring.{Ring, edges_of}
 use Rattle.ring_faces.specs.LatticePolygon.{Polygon, rings_of}
 use Rattle.ring_faces.specs.EdgePolygon.{IsEdgePolygon}
 use Rattle.ring_faces.specs.CanonicalPolygon.{IsCanonicalPolygon, ListsTurns, StartsLeast}
 use Rattle.ring_faces.specs.Faces.{AreJoinedBySides, IsCornerOf, FitsGrid}
+use Rattle.ring_faces.specs.Inner.Lattice.{HasNumber, HaveNumbers, IsWidth}
+use Rattle.ring_faces.specs.Inner.Tables.{edge_at}
 use Rattle.ring_faces.proofs.MemberLemmas.{all_of, in_flat}
 use Rattle.ring_faces.proofs.TurnLemmas.{HasWay, Turning, ring_way, turns_back}
 use Rattle.ring_faces.proofs.StartLemmas.{start_of_turn}
 use Rattle.ring_faces.proofs.TracedLemmas.{canonical_edges}
 use Rattle.ring_faces.proofs.RegionLemmas.{region_first, region_tests}
+use Rattle.ring_faces.proofs.TableLemmas.{edge_is_at}
 
 -- each component that has a canonical polygon has a first cell
 pub edge_polygon : (regions : RegionTable) (k : ℕ) (polygon : Polygon) → AreJoinedBySides regions → IsCanonicalPolygon (IsInRegion regions k) polygon
@@ -85,3 +90,23 @@ fits_grid regions k polygon shape canonical =
       corners = all_of (All (IsCornerOf regions.numbers.nrows regions.numbers.ncols)) rings
           (λ ring member. all_of (IsCornerOf regions.numbers.nrows regions.numbers.ncols) ring (corner_of_grid regions k polygon shape canonical ring member));
     }
+
+-- the corners where edges begin have numbers
+
+corner_number : (nrows ncols width : ℕ) (corner : Corner) → 0 < nrows → ncols * nrows ≤ 16777216 → IsWidth ncols width → IsCornerOf nrows ncols corner
+    → HasNumber width corner
+corner_number nrows ncols width corner some few is fits =
+    let row : corner.0 * width ≤ nrows * (2 * ncols) = mul-le-mul fits.row is.narrow in
+    let col : ncols * 1 ≤ ncols * nrows = mul-le-mul_left ncols some in
+    record { narrow = omega (arith, fits.col, is.wide); short = omega (arith, row, col, fits.col, few) }
+
+pub have_numbers : (regions : RegionTable) (table : EdgeTable) (width : ℕ) → IsRaster regions.numbers → HoldsBoundaries regions table
+    → IsWidth regions.numbers.ncols width → HaveNumbers width table
+have_numbers regions table width shape holds is = λ i less.
+    let e = edge_at table i in
+    let cell = element_at table.cells i (omega (arith, less, holds.cells)) in
+    let known = holds.known i cell.0 cell.1 in
+    let inside = inside_from_value regions.numbers cell.0 (Some known.0) shape known.1 in
+    let start = start_by_cell e cell.0 (holds.left i e cell.0 (edge_is_at table i less) cell.1) in
+    corner_number regions.numbers.nrows regions.numbers.ncols width e.0 shape.some_rows shape.small is
+    (record { row = omega (arith, inside.0, start.0); col = omega (arith, inside.1, start.1) })

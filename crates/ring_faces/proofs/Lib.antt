@@ -38,3 +38,4 @@ pub mod ChainLemmas
 pub mod ListedLemmas
 pub mod TracingLemmas
 pub mod CornerLemmas
+pub mod PassLemmas

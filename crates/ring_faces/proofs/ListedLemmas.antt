@@ -89,6 +89,20 @@ pub record IsAssembled (regions : RegionTable) (table : EdgeTable) (cycles : Lis
   pub cycles_are : AreAllCycles table.next cycles
   pub listed : AreListed regions table cycles lists 0
 
+-- from what is known of the same table, and the same cycles, on the way
+pub known_so_far : (regions : RegionTable) (table walked left : EdgeTable) (cycles lent : List Cycle) (lists : CycleLists)
+    → IsEdgeTable regions table → AreInOrder table → AreJoinedBySides regions → walked ≡ table → left ≡ walked → lent ≡ cycles
+    → AreAllCycles walked.next cycles → AreListed regions left lent lists 0 → IsAssembled regions table cycles lists
+known_so_far regions table walked left cycles lent lists table_is order sides walked_is left_is lent_is all listed =
+    let of_cycles = subst (λ (cs : List Cycle). AreListed regions left cs lists 0) lent_is listed in
+    record {
+      table_is = table_is;
+      order = order;
+      sides = sides;
+      cycles_are = subst (λ (t : EdgeTable). AreAllCycles t.next cycles) walked_is all;
+      listed = subst (λ (t : EdgeTable). AreListed regions t cycles lists 0) (left_is ∙ walked_is) of_cycles;
+    }
+
 case_of : (regions : RegionTable) (table : EdgeTable) (cycles : List Cycle) (lists : CycleLists) → IsAssembled regions table cycles lists
     → (k : ℕ) (a : Place) → slice_get regions.firsts k ≡ Some a → IsCase regions table k a
 case_of regions table cycles lists is k a first = record { holds = is.table_is.holds; links = is.table_is.links; order = is.order; sides = is.sides; first = first }
@@ -212,7 +226,7 @@ cycles_few table cycles linked are =
         (rising cs (pairs_tail (λ d e. d.first < e.first) c cs order))
 
 pub assembled_faces : (regions : RegionTable) (table : EdgeTable) (cycles : List Cycle) (lists : CycleLists) (rings : RingCorners)
-    → IsAssembled regions table cycles lists → AreRings table cycles rings.corners.items rings.starts.items → AreFaces rings lists
+    → IsAssembled regions table cycles lists → AreRings rings.lattice.width table cycles rings.corners.items rings.starts.items → AreFaces rings lists
 assembled_faces regions table cycles lists rings is are = record {
   linked = record {
     in_rings = are.in_rings;

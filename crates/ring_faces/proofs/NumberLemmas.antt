@@ -49,6 +49,23 @@ pub record IsUnderWay (next : List ℕ) (old marks : List Bool) (first count at 
   pub below : (i : ℕ) → Contains (numbers_from next count first) i → i < length next
   pub marking : MarksThese (numbers_from next count first) old marks
 
+pub under_way_begin : (next : List ℕ) (marks : List Bool) (first : ℕ) → first < length next → IsFree marks first
+    → IsUnderWay next marks marks first 0 first
+under_way_begin next marks first within free = record {
+  leads = refl;
+  within = within;
+  fresh = free;
+  once = pairs_nil (λ i j. i ≢ j);
+  below = λ i member. absurd (none_in i member);
+  marking = record {
+    sized = refl;
+    fresh = λ i member. absurd (none_in i member);
+    marked = λ i member. absurd (none_in i member);
+    kept = λ i is. is;
+    only = λ i is. inl is;
+  };
+}
+
 -- no number of the walk is free
 not_on_walk : (next : List ℕ) (old marks : List Bool) (first count at : ℕ) → IsUnderWay next old marks first count at → IsFree marks at
     → ¬ Contains (numbers_from next count first) at

@@ -1,4 +1,5 @@
 pub mod Turns
+pub mod Lattice
 pub mod Blocks
 pub mod Cycles
 pub mod Tables

@@ -7,11 +7,12 @@ ghost use Rattle.ring_faces.specs.Faces.{AreJoinedBySides, ArePolygonsOf, polygo
 ghost use Rattle.ring_faces.specs.LatticePolygon.{rings_of};
 
 use crate::cycles::Cycles;
+use crate::lattice::Lattice;
 use crate::lists::CycleLists;
 use crate::polygon::{LatticePolygon, Ring, RingList};
 use crate::rings::RingCorners;
 use crate::walk::RingWalk;
-use edge_trace::EdgeTable;
+use edge_trace::{EdgeTable, EdgeWalks};
 use region_label::Regions;
 use std::alloc::{AllocError, Global};
 use std::marker::Model;
@@ -44,8 +45,10 @@ impl Faces {
         requires sides { AreJoinedBySides regions.now }
         ensures { IfOk result (ArePolygonsOf regions.now) }
     {
-        let Cycles { cycles, rings } = Cycles::of(alloc, &edges)?;
-        let lists = CycleLists::make(alloc, &edges, &cycles, regions)?;
+        let lattice = Lattice::of(regions.ncols());
+        let mut walks = EdgeWalks::of(edges);
+        let Cycles { cycles, rings } = Cycles::of(alloc, &mut walks, lattice)?;
+        let lists = CycleLists::make(alloc, &walks, &cycles, regions)?;
         Ok(Faces { rings, lists })
     }
 

@@ -6,7 +6,7 @@ ghost use Rattle.ring_faces.specs.Inner.Chains.{AreListed, CyclesBegin};
 
 use crate::cycles::Cycle;
 use crate::owners::owner_of;
-use edge_trace::EdgeTable;
+use edge_trace::EdgeWalks;
 use region_label::Regions;
 use std::alloc::{AllocError, Global};
 
@@ -22,21 +22,21 @@ impl CycleLists {
     // after so many.
     fn put(
         &mut self,
-        edges: &EdgeTable,
+        walks: &EdgeWalks,
         cycles: &[Cycle],
         regions: &Regions,
         at: usize,
         runs: usize,
     ) -> usize
-        requires edges { HoldsBoundaries regions.now edges.now }
+        requires edges { HoldsBoundaries regions.now walks.now.table }
         requires sides { AreJoinedBySides regions.now }
-        requires begin { CyclesBegin edges.now cycles.now }
+        requires begin { CyclesBegin walks.now.table cycles.now }
         requires few { length cycles.now < 2 ^ 32 }
         requires at { at < length cycles.now }
-        requires listed { AreListed regions.now edges.now cycles.now self.old (at + 1) }
-        ensures { AreListed regions.now edges.now cycles.now self.new at }
+        requires listed { AreListed regions.now walks.now.table cycles.now self.old (at + 1) }
+        ensures { AreListed regions.now walks.now.table cycles.now self.new at }
     {
-        let (row, col) = edges.cell_of(cycles[at].first);
+        let (row, col) = walks.cell_of(cycles[at].first);
         let owner = owner_of(regions, row, col, runs);
         if let Some(k) = owner.component {
             self.links[at] = self.firsts[k as usize];
@@ -48,15 +48,15 @@ impl CycleLists {
     // The cycles of each component in the order in which they stand. The only error is want of memory.
     pub(crate) fn make(
         alloc: Global,
-        edges: &EdgeTable,
+        walks: &EdgeWalks,
         cycles: &[Cycle],
         regions: &Regions,
     ) -> Result<CycleLists, AllocError>
-        requires edges { HoldsBoundaries regions.now edges.now }
+        requires edges { HoldsBoundaries regions.now walks.now.table }
         requires sides { AreJoinedBySides regions.now }
-        requires begin { CyclesBegin edges.now cycles.now }
+        requires begin { CyclesBegin walks.now.table cycles.now }
         requires few { length cycles.now < 2 ^ 32 }
-        ensures { IfOk result (λ lists. AreListed regions.now edges.now cycles.now lists 0) }
+        ensures { IfOk result (λ lists. AreListed regions.now walks.now.table cycles.now lists 0) }
     {
         let end = cycles.len() as u32;
         let links = vec![in alloc; end; cycles.len()]?;
@@ -66,7 +66,7 @@ impl CycleLists {
         let mut runs = regions.table().runs().len();
         while at > 0 {
             at -= 1;
-            runs = lists.put(edges, cycles, regions, at, runs);
+            runs = lists.put(walks, cycles, regions, at, runs);
         }
         Ok(lists)
     }

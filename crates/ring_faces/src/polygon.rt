@@ -1,16 +1,20 @@
 // Rings and polygons as lists of corners.
 ghost use Rattle.std.specs.Prelude.{◌≡◌, ◌↔◌, ◌++◌, ◌∷◌, [], IfOk, IsTrue, OnErr, OnOk, length, map, option_map, slice_get};
-ghost use Rattle.ring_faces.specs.Ring.{points_of};
 
+use crate::corners::CornerWalk;
 use crate::walk::RingWalk;
 use edge_trace::Corner;
+use smallvec::SmallVec;
 use std::alloc::{AllocError, Global};
 use std::marker::Model;
+
+// A ring of so many corners, as most are, lies in its value; a longer one asks for memory.
+const INLINE: usize = 4;
 
 /// A ring by its corners in order, of which the first isn't repeated at the end.
 #[derive(Debug, Drop)]
 pub struct Ring {
-    corners: Vec<Corner>,
+    corners: SmallVec<Corner, INLINE>,
 }
 
 impl Model for Ring {
@@ -28,16 +32,20 @@ impl Ring {
         ensures { result ≡ [] }
     {
         Ring {
-            corners: Vec::new(alloc),
+            corners: SmallVec::new(alloc),
         }
     }
 
     // These corners.
-    pub(crate) fn of(alloc: Global, corners: &[Corner]) -> Result<Ring, AllocError>
-        ensures { IfOk result (λ ring. ring ≡ points_of corners.now) }
+    pub(crate) fn of(alloc: Global, corners: CornerWalk<'_>) -> Result<Ring, AllocError>
+        ensures { IfOk result (λ ring. ring ≡ corners.entry) }
     {
-        let mut ring = Ring::new(alloc);
-        ring.corners.extend_from_slice(corners)?;
+        let mut ring = Ring {
+            corners: SmallVec::with_capacity(alloc, corners.len())?,
+        };
+        'corners: for corner in corners {
+            ring.push(corner)?;
+        }
         Ok(ring)
     }
 
@@ -68,7 +76,7 @@ impl Ring {
     pub fn get(&self, i: usize) -> Option<&Corner>
         ensures { option_map (λ corner. (corner.now.row, corner.now.col)) result ≡ slice_get self.now i }
     {
-        self.corners.get(i)
+        self.corners.as_slice().get(i)
     }
 
     /// The corners in their order.

@@ -1,8 +1,8 @@
 ghost use Rattle.std.specs.Prelude.{◌≡◌};
 ghost use Rattle.ring_faces.specs.Inner.Chains.{AreLinkedRings, ring_at, rings_from};
 
+use crate::corners::CornerWalk;
 use crate::rings::RingCorners;
-use edge_trace::Corner;
 use std::marker::Model;
 
 /// The rings of a polygon one by one, each by its corners. Contracts see those that are left.
@@ -41,16 +41,15 @@ impl<'a> RingWalk<'a> {
 }
 
 impl<'a> Iterator for RingWalk<'a> {
-    type Item = &'a [Corner];
+    type Item = CornerWalk<'a>;
 
     ghost use Rattle.std.specs.Iterator.{YieldsFirstBy, item_count};
-    ghost use Rattle.ring_faces.specs.Ring.{points_of};
 
-    ghost next_gives = { YieldsFirstBy (λ corners. points_of corners.now) (λ rest. rest) };
+    ghost next_gives = { YieldsFirstBy (λ corners. corners) (λ rest. rest) };
 
     ghost remaining = { item_count (λ rest. rest) };
 
-    fn next(&mut self) -> Option<&'a [Corner]> {
+    fn next(&mut self) -> Option<CornerWalk<'a>> {
         let at = self.next as usize;
         if at >= self.links.len() {
             return None;

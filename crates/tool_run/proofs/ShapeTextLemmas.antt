@@ -1,34 +1,15 @@
 -- The texts of shapes, from the corners of their rings.
-use Rattle.std.proofs.Common.{◌≡◌, ◌∙◌, ◌<◌, ◌≤◌, ◌+◌, ◌++◌, ◌∷◌, [], ℕ, List, Some, All, length, map, take, drop, ap, arith, refl, subst, sym}
+use Rattle.std.proofs.Common.{◌≡◌, ◌∙◌, ◌<◌, ◌≤◌, ◌+◌, ◌++◌, ◌∷◌, [], ℕ, List, Some, All, length, map, drop, ap, arith, refl, subst, sym}
 use Rattle.std.specs.Prelude.{slice_get}
-use Rattle.std.proofs.lemmas.List.{length-map}
-use Rattle.std.proofs.lemmas.Option.{none-some, same_Some}
 use Rattle.edge_trace.specs.Edge.{Corner}
-use Rattle.edge_trace.specs.declared.table.Corner as coded
 use Rattle.geo_transform.specs.declared.frame.Frame.{Frame}
 use Rattle.ring_faces.specs.Faces.{IsCornerOf}
-use Rattle.ring_faces.specs.Ring.{Ring, points_of}
+use Rattle.ring_faces.specs.Ring.{Ring}
 use Rattle.tool_outcome.specs.Polygonize.{path_of, point_of}
 use Rattle.wkt_text.specs.Inner.Spelled.{IsWriting}
 use Rattle.wkt_text.specs.Spelling.{body_text, list_text, path_text, point_text}
-use Rattle.wkt_text.proofs.WriteLemmas.{all_written, member_written}
-use Rattle.tool_run.proofs.LayerLemmas.{all_at, drop_at, drop_past}
-
-first_again : {A : Type 0} (xs : List A) (x : A) → slice_get xs 0 ≡ Some x → take 1 xs ≡ x ∷ []
-first_again [] x is = absurd (none-some x is)
-first_again (y ∷ ys) x is = ap (λ z. z ∷ []) (same_Some y x is)
-
--- the points of the corners from one on, and that of the first again
-pub points_next : (frame : Frame) (corners : List Corner) (i : ℕ) (corner : Corner) → slice_get corners i ≡ Some corner
-    → map (point_of frame) (drop i corners ++ take 1 corners) ≡ point_of frame corner ∷ map (point_of frame) (drop (i + 1) corners ++ take 1 corners)
-points_next frame corners i corner is = ap (λ behind. map (point_of frame) (behind ++ take 1 corners)) (drop_at corners i corner is)
-
--- behind the last corner
-pub points_end : (frame : Frame) (corners : List Corner) (i : ℕ) (first : Corner) → length corners ≤ i → slice_get corners 0 ≡ Some first
-    → map (point_of frame) (drop i corners ++ take 1 corners) ≡ point_of frame first ∷ []
-points_end frame corners i first past is =
-    ap (λ behind. map (point_of frame) (behind ++ take 1 corners)) (drop_past corners i past)
-    ∙ ap (map (point_of frame)) (first_again corners first is)
+use Rattle.wkt_text.proofs.WriteLemmas.{all_written, member_written, none_written}
+use Rattle.tool_run.proofs.LayerLemmas.{drop_at, drop_past}
 
 -- the text of a list that isn't empty
 pub body_some : {A : Type 0} (text : A → List ℕ) (members : List A) → 0 < length members → body_text text members ≡ list_text text members
@@ -37,34 +18,43 @@ body_some text (member ∷ members) some = refl
 
 -- rings
 
-pub points_long : (ring : List coded.Corner) → length (points_of ring) ≡ length ring
-points_long ring = length-map {B = Corner} ring (λ (corner : coded.Corner). (corner.row, corner.col))
-
 -- the corners of a ring that fits are those of the frame
-pub corner_within : (frame own : Frame) (corners : Ring) (i : ℕ) (corner : Corner) → own ≡ frame → slice_get corners i ≡ Some corner → All (IsCornerOf frame.nrows frame.ncols) corners → IsCornerOf own.nrows own.ncols corner
-corner_within frame own corners i corner same at fit =
-    subst (λ (f : Frame). IsCornerOf f.nrows f.ncols corner) (sym same) (all_at (IsCornerOf frame.nrows frame.ncols) corners i corner at fit)
+pub corner_within : (frame own : Frame) (corner : Corner) → own ≡ frame → IsCornerOf frame.nrows frame.ncols corner
+    → IsCornerOf own.nrows own.ncols corner
+corner_within frame own corner same fits = subst (λ (f : Frame). IsCornerOf f.nrows f.ncols corner) (sym same) fits
 
-pub path_some : (frame : Frame) (corners : Ring) → 0 < length corners → 0 < length (path_of frame corners)
-path_some frame [] some = absurd (omega (arith, some))
-path_some frame (corner ∷ corners) some = omega arith
+pub corners_within : (frame : Frame) (ring rest : Ring) (first : Corner) → ring ≡ first ∷ rest → All (IsCornerOf frame.nrows frame.ncols) ring
+    → All (IsCornerOf frame.nrows frame.ncols) (first ∷ rest)
+corners_within frame ring rest first parts fit = subst (All (IsCornerOf frame.nrows frame.ncols)) parts fit
 
--- a mark and the next corner
-pub corner_written : (frame own : Frame) (corners : Ring) (i : ℕ) (corner : Corner) (before now marked new : List ℕ) (mark : ℕ) → own ≡ frame → slice_get corners i ≡ Some corner
-    → IsWriting point_text (path_of frame corners) before now mark (map (point_of frame) (drop i corners ++ take 1 corners)) → marked ≡ now ++ mark ∷ [] → new ≡ marked ++ point_text (point_of own corner)
-    → IsWriting point_text (path_of frame corners) before new 44 (map (point_of frame) (drop (i + 1) corners ++ take 1 corners))
-corner_written frame own corners i corner before now marked new mark same at is first second =
-    member_written (point_of frame corner) (map (point_of frame) (drop (i + 1) corners ++ take 1 corners)) marked new is (points_next frame corners i corner at) first
-    (second ∙ ap (λ (f : Frame). marked ++ point_text (point_of f corner)) same)
+-- the opening parenthesis and the first corner
+pub first_written : (frame own : Frame) (ring rest : Ring) (first : Corner) (before opened new : List ℕ) → own ≡ frame → ring ≡ first ∷ rest
+    → opened ≡ before ++ 40 ∷ [] → new ≡ opened ++ point_text (point_of own first)
+    → IsWriting point_text (path_of frame ring) before new 44 (map (point_of frame) (rest ++ first ∷ []))
+first_written frame own ring rest first before opened new same parts once twice =
+    let path : path_of frame ring ≡ map (point_of frame) (first ∷ rest ++ first ∷ []) = ap (path_of frame) parts in
+    let some : 0 < length (path_of frame ring) = omega (arith, ap length path) in
+    member_written (point_of frame first) (map (point_of frame) (rest ++ first ∷ [])) opened new (none_written point_text (path_of frame ring) before some)
+    path once (twice ∙ ap (λ (f : Frame). opened ++ point_text (point_of f first)) same)
+
+-- a comma and the next corner
+pub corner_written : (frame own : Frame) (ring left rest : Ring) (first corner : Corner) (before now marked new : List ℕ) → own ≡ frame
+    → left ≡ corner ∷ rest → IsWriting point_text (path_of frame ring) before now 44 (map (point_of frame) (left ++ first ∷ []))
+    → marked ≡ now ++ 44 ∷ [] → new ≡ marked ++ point_text (point_of own corner)
+    → IsWriting point_text (path_of frame ring) before new 44 (map (point_of frame) (rest ++ first ∷ []))
+corner_written frame own ring left rest first corner before now marked new same parts is once twice =
+    member_written (point_of frame corner) (map (point_of frame) (rest ++ first ∷ [])) marked new is
+    (ap (λ (cs : Ring). map (point_of frame) (cs ++ first ∷ [])) parts) once
+    (twice ∙ ap (λ (f : Frame). marked ++ point_text (point_of f corner)) same)
 
 -- the first corner again, and the closing parenthesis
-pub ring_written : (frame own : Frame) (corners : Ring) (i : ℕ) (first : Corner) (before now marked more new : List ℕ) (mark : ℕ) → own ≡ frame → length corners ≤ i → slice_get corners 0 ≡ Some first
-    → IsWriting point_text (path_of frame corners) before now mark (map (point_of frame) (drop i corners ++ take 1 corners)) → marked ≡ now ++ mark ∷ [] → more ≡ marked ++ point_text (point_of own first) → new ≡ more ++ 41 ∷ []
-    → new ≡ before ++ path_text (path_of frame corners)
-ring_written frame own corners i first before now marked more new mark same past at is once twice last =
+pub ring_written : (frame own : Frame) (ring left : Ring) (first : Corner) (before now marked more new : List ℕ) → own ≡ frame → left ≡ []
+    → IsWriting point_text (path_of frame ring) before now 44 (map (point_of frame) (left ++ first ∷ [])) → marked ≡ now ++ 44 ∷ []
+    → more ≡ marked ++ point_text (point_of own first) → new ≡ more ++ 41 ∷ [] → new ≡ before ++ path_text (path_of frame ring)
+ring_written frame own ring left first before now marked more new same none is once twice last =
     all_written new
-    (member_written (point_of frame first) [] marked more is (points_end frame corners i first past at) once (twice ∙ ap (λ (f : Frame). marked ++ point_text (point_of f first)) same))
-    refl last
+    (member_written (point_of frame first) [] marked more is (ap (λ (cs : Ring). map (point_of frame) (cs ++ first ∷ [])) none) once
+    (twice ∙ ap (λ (f : Frame). marked ++ point_text (point_of f first)) same)) refl last
 
 -- members of a list, each made of one of another
 

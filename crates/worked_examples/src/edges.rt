@@ -3,7 +3,7 @@ ghost use Rattle.std.specs.Prelude.{◌≡◌, ◌*◌, ◌<◌, ◌≤◌, leng
 ghost use Rattle.cell_base.specs.Raster.{most_cells};
 
 use cell_base::{Grid, Mask};
-use edge_trace::{Corner, EdgeTable};
+use edge_trace::{Corner, EdgeTable, EdgeWalks};
 use region_label::label;
 use std::alloc::{AllocError, Global};
 use std::test::Fail;
@@ -30,6 +30,36 @@ fn told(table: &EdgeTable, e: u32) -> Told
     )
 }
 
+/// The same by a walk that passes an edge; nothing where there is no such edge, or where an edge is passed more than once.
+fn passed(walks: &mut EdgeWalks, e: u32) -> Option<Told> {
+    if e >= walks.count() || walks.is_passed(e) {
+        return None;
+    }
+    let cell = walks.cell_of(e);
+    let edge = walks.edge(e);
+    let next = walks.pass(edge)?;
+    if walks.pass(edge).is_some() || next.start != edge.end {
+        return None;
+    }
+    Some((
+        place(edge.start.row, edge.start.col),
+        place(edge.end.row, edge.end.col),
+        place(cell.0, cell.1),
+        next.number,
+    ))
+}
+
+/// Whether walks pass each edge of a table once, and these are the edges.
+fn passes(table: EdgeTable, want: &[Told]) -> bool {
+    let mut walks = EdgeWalks::of(table);
+    for e in 0..walks.count() {
+        if passed(&mut walks, e).as_ref() != want.get(e as usize) {
+            return false;
+        }
+    }
+    true
+}
+
 /// Whether the table of the components of these cells, where -9999 isn't valid, has these edges by number.
 fn traces<const EIGHT: bool>(
     alloc: Global,
@@ -53,7 +83,7 @@ fn traces<const EIGHT: bool>(
         }
         at = at.wrapping_add(1);
     }
-    Ok(at == want.len())
+    Ok(at == want.len() && passes(table, want))
 }
 
 // The corner (2, 2) has four edges of the first component.
@@ -206,7 +236,7 @@ fn cells_that_are_not_valid_have_no_edges(rt: HostRuntime) -> Result<(), Fail> {
     Ok(())
 }
 
-/// Which edges of these cells run along a row, by number.
+/// Which edges of these cells run along a row, by number, and then the same by walks.
 fn levels(alloc: Global, size: (u32, u32), cells: &[i64]) -> Result<Vec<bool>, AllocError>
     requires cols { 0 < size.0 }
     requires rows { 0 < size.1 }
@@ -221,6 +251,10 @@ fn levels(alloc: Global, size: (u32, u32), cells: &[i64]) -> Result<Vec<bool>, A
     for e in 0..table.count() {
         out.push(table.is_level(e))?;
     }
+    let walks = EdgeWalks::of(table);
+    for e in 0..walks.count() {
+        out.push(walks.edge(e).is_level())?;
+    }
     Ok(out)
 }
 
@@ -228,6 +262,8 @@ fn levels(alloc: Global, size: (u32, u32), cells: &[i64]) -> Result<Vec<bool>, A
 #[test]
 fn every_second_edge_round_a_cell_is_level(rt: HostRuntime) -> Result<(), Fail> {
     let found = levels(rt.alloc(), (1, 1), &[1])?;
-    assert!(rt; found.as_slice() == [false, true, false, true].as_slice());
+    assert!(rt;
+        found.as_slice() == [false, true, false, true, false, true, false, true].as_slice()
+    );
     Ok(())
 }

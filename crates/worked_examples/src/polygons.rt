@@ -9,7 +9,7 @@ ghost use Rattle.region_label.specs.Labelling.{IsLabelling};
 use cell_base::{Grid, Mask};
 use edge_trace::{Corner, EdgeTable};
 use region_label::{Regions, label};
-use ring_faces::{Faces, LatticePolygon, Ring, RingList};
+use ring_faces::{CornerWalk, Faces, LatticePolygon, Ring, RingList};
 use std::alloc::{AllocError, Global};
 use std::test::Fail;
 
@@ -18,10 +18,28 @@ const HOLE: u64 = 88;
 
 const NEXT: u64 = 99;
 
-/// Adds the corners of a ring, each as row times 10 plus column.
+/// Adds a corner as row times 10 plus column.
+fn push_corner(out: &mut Vec<u64>, corner: Corner) -> Result<(), AllocError> {
+    out.push(10 * corner.row as u64 + corner.col as u64)?;
+    Ok(())
+}
+
+/// Adds the corners of a ring.
 fn push_ring(out: &mut Vec<u64>, corners: &[Corner]) -> Result<(), AllocError> {
     for corner in corners {
-        out.push(10 * corner.row as u64 + corner.col as u64)?;
+        push_corner(out, *corner)?;
+    }
+    Ok(())
+}
+
+/// Adds the corners of a ring that is lent, and nothing where they are not as many as it tells.
+fn push_lent(out: &mut Vec<u64>, corners: CornerWalk<'_>) -> Result<(), AllocError> {
+    let end = out.len().saturating_add(corners.len());
+    for corner in corners {
+        push_corner(out, corner)?;
+    }
+    if out.len() != end {
+        out.clear();
     }
     Ok(())
 }
@@ -73,7 +91,7 @@ fn lent_rings(alloc: Global, faces: &Faces, count: u32) -> Result<Vec<u64>, Allo
         let mut mark = NEXT;
         for corners in faces.rings(k) {
             out.push(mark)?;
-            push_ring(&mut out, corners)?;
+            push_lent(&mut out, corners)?;
             mark = HOLE;
         }
     }
@@ -119,6 +137,18 @@ fn a_shell_that_a_hole_touches(rt: HostRuntime) -> Result<(), Fail> {
     ];
     assert!(rt; makes(rt.alloc(), (3, 3), &cells, &want)?);
     assert!(rt; !makes(rt.alloc(), (3, 3), &cells, &outer)?);
+    Ok(())
+}
+
+// More corners than a ring holds in its value.
+#[test]
+fn a_ring_of_twelve_corners(rt: HostRuntime) -> Result<(), Fail> {
+    let cells = [2, 1, 2, 1, 1, 1, 2, 1, 2];
+    let want = [
+        99, 0, 10, 11, 1, 99, 1, 11, 10, 20, 21, 31, 32, 22, 23, 13, 12, 2, 99, 2, 12, 13, 3, 99,
+        20, 30, 31, 21, 99, 22, 32, 33, 23,
+    ];
+    assert!(rt; makes(rt.alloc(), (3, 3), &cells, &want)?);
     Ok(())
 }
 

@@ -1,20 +1,20 @@
 -- Corners that are gathered in a block before they come to a list.
-use Rattle.std.specs.Prelude.{◌≡◌, ◌<◌, ◌≤◌, ◌++◌, List, length, take}
+use Rattle.std.specs.Prelude.{◌≡◌, ℕ, ◌<◌, ◌≤◌, ◌++◌, List, length, take}
 use Rattle.edge_trace.specs.Edge.{Corner}
-use Rattle.edge_trace.specs.declared.table.Corner as coded
-use Rattle.ring_faces.specs.Ring.{points_of}
+use Rattle.ring_faces.specs.Inner.Lattice.{corners_of}
 use Rattle.ring_faces.specs.declared.turns.TurnBlock.{TurnBlock}
 
--- the corners that a block holds
-abbrev pub held : TurnBlock → List coded.Corner
+-- the numbers of the corners that a block holds
+abbrev pub held : TurnBlock → List ℕ
 held block = take block.count block.corners.items
 
 -- those of a list, and behind them those of a block
-abbrev pub gathered : List coded.Corner → TurnBlock → List coded.Corner
+abbrev pub gathered : List ℕ → TurnBlock → List ℕ
 gathered corners block = corners ++ held block
 
-abbrev pub gathered_points : List coded.Corner → TurnBlock → List Corner
-gathered_points corners block = points_of (gathered corners block)
+-- their corners
+abbrev pub gathered_corners : ℕ → List ℕ → TurnBlock → List Corner
+gathered_corners width corners block = corners_of width (gathered corners block)
 
 -- a block has room, and holds no more than that
 pub record IsBlock (block : TurnBlock) : Type 0 where

@@ -2,10 +2,10 @@
 use Rattle.std.specs.Prelude.{◌≡◌, ℕ, zero, suc, ◌+◌, ◌-◌, ◌<◌, ◌≤◌, ◌↔◌, List, [], ◌∷◌, Some, AllPairs, Contains, drop, length, map, nat_lt, slice_get, slice_index, take, unwrap_or, if◌then◌else◌}
 use Rattle.region_label.specs.Labelling.{RegionTable}
 use Rattle.edge_trace.specs.Edge.{Corner}
-use Rattle.edge_trace.specs.declared.table.Corner as coded
 use Rattle.edge_trace.specs.EdgeTable.{EdgeTable, IsEdgeOf}
 use Rattle.ring_faces.specs.LatticePolygon.{Polygon}
-use Rattle.ring_faces.specs.Ring.{Ring, points_of}
+use Rattle.ring_faces.specs.Ring.{Ring}
+use Rattle.ring_faces.specs.Inner.Lattice.{corners_of}
 use Rattle.ring_faces.specs.Inner.Turns.{turns_of}
 use Rattle.ring_faces.specs.Inner.Tables.{edges_along}
 use Rattle.ring_faces.specs.declared.cycles.Cycle.{Cycle}
@@ -66,25 +66,25 @@ ring_traced table cycles i = ring_along table (cycle_at cycles i)
 abbrev pub between : List Corner → ℕ → ℕ → List Corner
 between corners from to = take (to - from) (drop from corners)
 
--- the ring at an index, by all corners and by where those of each ring begin
-abbrev pub ring_in : List coded.Corner → List ℕ → ℕ → Ring
-ring_in corners starts i = between (points_of corners) (slice_index starts i) (slice_index starts (i + 1))
+-- the ring at an index, by the numbers of all corners and by where those of each ring begin
+abbrev pub ring_in : ℕ → List ℕ → List ℕ → ℕ → Ring
+ring_in width numbers starts i = between (corners_of width numbers) (slice_index starts i) (slice_index starts (i + 1))
 
 -- as it was kept
 abbrev pub ring_at : RingCorners → ℕ → Ring
-ring_at rings = ring_in rings.corners.items rings.starts.items
+ring_at rings = ring_in rings.lattice.width rings.corners.items rings.starts.items
 
 -- the rings lie in the list of corners
-pub record AreInRings (corners : List coded.Corner) (starts : List ℕ) : Type 0 where
+pub record AreInRings (corners : List ℕ) (starts : List ℕ) : Type 0 where
   pub within : (i : ℕ) → i < length starts → slice_index starts i ≤ length corners
   pub rising : (i : ℕ) → i + 1 < length starts → slice_index starts i ≤ slice_index starts (i + 1)
 
 -- the rings of these cycles are there
-pub record AreRings (table : EdgeTable) (cycles : List Cycle) (corners : List coded.Corner) (starts : List ℕ) : Type 0 where
+pub record AreRings (width : ℕ) (table : EdgeTable) (cycles : List Cycle) (corners starts : List ℕ) : Type 0 where
   pub sized : length starts ≡ length cycles + 1
   pub end : slice_index starts (length cycles) ≡ length corners
   pub in_rings : AreInRings corners starts
-  pub each : (i : ℕ) → i < length cycles → ring_in corners starts i ≡ ring_traced table cycles i
+  pub each : (i : ℕ) → i < length cycles → ring_in width corners starts i ≡ ring_traced table cycles i
 
 -- the rings that are linked from one on
 abbrev pub rings_from : (ℕ → Ring) → List ℕ → ℕ → List Ring

@@ -3,12 +3,11 @@ use Rattle.std.proofs.lemmas.List.{length-map}
 use Rattle.std.proofs.lemmas.List.Elements.{All-head, All-tail}
 use Rattle.geo_transform.specs.declared.frame.Frame.{Frame}
 use Rattle.ring_faces.specs.Faces.{IsCornerOf}
-use Rattle.ring_faces.specs.Ring.{Ring, points_of}
+use Rattle.ring_faces.specs.Ring.{Ring}
 use Rattle.tool_outcome.specs.Polygonize.{path_of}
 use Rattle.wkt_text.proofs.WriteLemmas.{all_written, member_written, none_written}
 use Rattle.wkt_text.specs.Inner.Spelled.{IsWriting}
 use Rattle.wkt_text.specs.Spelling.{path_text}
-use Rattle.tool_run.proofs.ShapeTextLemmas.{points_long}
 use Rattle.tool_run.proofs.shape_text.write_polygon.Goals as goal
 
 pub rings-init : goal.rings-init
@@ -29,21 +28,20 @@ rings-init c =
 
 pub write_ring-requires-clause-some : goal.write_ring-requires-clause-some
 write_ring-requires-clause-some c =
-    let ring = points_of c.in-Some.ring.now in
-    let long = All-head (λ ring. 4 ≤ length ring) ring c.next.new.self (rw c.in-Some.ensures.steps at c.rings.invariant.long) in
-    omega (arith, long, points_long c.in-Some.ring.now)
+    let long = All-head (λ ring. 4 ≤ length ring) c.in-Some.ring c.next.new.self (rw c.in-Some.ensures.steps at c.rings.invariant.long) in
+    omega (arith, long)
 
 pub write_ring-requires-clause-corners : goal.write_ring-requires-clause-corners
 write_ring-requires-clause-corners c =
     let frame = c.args.texts.now.frame in
-    let ring = points_of c.in-Some.ring.now in
+    let ring = c.in-Some.ring in
     let fit = All-head (All (IsCornerOf frame.nrows frame.ncols)) ring c.next.new.self (rw c.in-Some.ensures.steps at c.rings.invariant.fit) in
     subst (λ (f : Frame). All (IsCornerOf f.nrows f.ncols) ring) (sym c.rings.invariant.frame) fit
 
 pub rings-preserved : goal.rings-preserved
 rings-preserved c =
     let frame = c.args.texts.now.frame in
-    let ring = points_of c.in-Some.ring.now in
+    let ring = c.in-Some.ring in
     let next = ap (map (path_of frame)) c.in-Some.ensures.steps in
     let written = c.in_ok-write_ring.ensures.text ∙ ap (λ (f : Frame). c.push.new.self.items ++ path_text (path_of f ring)) c.rings.invariant.frame in
     record {

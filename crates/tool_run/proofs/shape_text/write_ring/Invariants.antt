@@ -1,5 +1,5 @@
-use Rattle.std.proofs.Common.{◌≡◌, ◌++◌, drop, map, take}
-use Rattle.ring_faces.specs.Ring.{points_of}
+use Rattle.std.proofs.Common.{◌≡◌, ◌++◌, ◌∷◌, [], All, map}
+use Rattle.ring_faces.specs.Faces.{IsCornerOf}
 use Rattle.tool_outcome.specs.Polygonize.{path_of, point_of}
 use Rattle.wkt_text.specs.Inner.Spelled.{IsWriting}
 use Rattle.wkt_text.specs.Spelling.{point_text}
@@ -9,6 +9,10 @@ use Rattle.tool_run.proofs.shape_text.write_ring.Given as goal
 abbrev pub invariant-corners : goal.invariant-corners
 invariant-corners l = record {
   frame : l.texts.frame ≡ l.fn.texts.frame;
-  written : IsWriting point_text (path_of l.fn.texts.frame (points_of l.ring)) l.fn.out.items l.out.items l.mark
-      (map (point_of l.fn.texts.frame) (drop l.corner-index (points_of l.ring) ++ take 1 (points_of l.ring)));
+  written : IsWriting point_text (path_of l.fn.texts.frame l.fn.ring) l.fn.out.items l.out.items 44
+      (map (point_of l.fn.texts.frame) (l.corner-iterator ++ (l.first.row, l.first.col) ∷ []));
+  first : IsCornerOf l.fn.texts.frame.nrows l.fn.texts.frame.ncols (l.first.row, l.first.col);
+  fit : All (IsCornerOf l.fn.texts.frame.nrows l.fn.texts.frame.ncols) l.corner-iterator;
+  can : (goal.iterator-corners).can_next l.corner-iterator;
+  finite : (goal.iterator-corners).is_finite l.corner-iterator;
 }

@@ -1,11 +1,17 @@
-use Rattle.std.proofs.Common.{◌≡◌, ◌∙◌, ◌++◌, ◌∷◌, [], ℕ, length, ap}
+use Rattle.std.proofs.Common.{false, true, ◌≡◌, ◌∙◌, ◌++◌, ◌∷◌, [], ℕ, length, ap}
+use Rattle.std.proofs.lemmas.Option.{get_or_from_slice_get}
 use Rattle.ring_faces.specs.Inner.Blocks.{gathered}
 use Rattle.ring_faces.proofs.CornerLemmas.{rings_push}
+use Rattle.ring_faces.proofs.PassLemmas.{told_free}
 use Rattle.ring_faces.proofs.NumberLemmas.{found_more, found_pass}
 use Rattle.ring_faces.proofs.cycles.Cycles.find.Goals as goal
 
-pub returns-then-marks-e-clause-found : goal.returns-then-marks-e-clause-found
-returns-then-marks-e-clause-found c = found_pass _ _ _ _ c.requires.found c.if-marks-e.true
+pub walk-requires-clause-free : goal.walk-requires-clause-free
+walk-requires-clause-free c = told_free c.args.walks.now.passed c.args.e (c.if-is_passed.ensures {u = tt})
+
+pub returns-then-is_passed-clause-found : goal.returns-then-is_passed-clause-found
+returns-then-is_passed-clause-found c = found_pass _ _ _ _ c.requires.found
+    (get_or_from_slice_get c.args.walks.now.passed c.args.e true false (c.if-is_passed.ensures {u = tt}))
 
 pub returns-clause-found : goal.returns-clause-found
 returns-clause-found c =
@@ -21,4 +27,4 @@ returns-clause-rings c =
     let starts : c.push.new.self.items ≡ old_starts ++ length new ∷ [] = c.in_ok-push.ensures.items
     ∙ ap (λ (n : ℕ). old_starts ++ n ∷ []) c.count_behind.ensures in
     rw c.in_ok-push-2.ensures.items
-    (rings_push c.args.edges.now c.args.self.now.cycles.items c.in_ok-cycle.cycle old new old_starts c.push.new.self.items c.requires.rings walked.corners starts)
+    (rings_push c.args.self.now.rings.lattice.width c.args.walks.now.table c.args.self.now.cycles.items c.in_ok-cycle.cycle old new old_starts c.push.new.self.items c.requires.rings walked.corners starts)

@@ -5,7 +5,7 @@ use Rattle.ring_faces.proofs.lists.CycleLists.make.Given as goal
 -- the cycles from this one on are linked
 abbrev pub invariant-loop-at : goal.invariant-loop-at
 invariant-loop-at l = record {
-  listed : AreListed l.regions l.edges l.cycles l.lists l.at;
+  listed : AreListed l.regions l.walks.table l.cycles l.lists l.at;
   within : l.at ≤ length l.cycles;
 }
 

@@ -30,7 +30,7 @@ returns-in-Some c =
     let of_k = owned c.args.regions.now c.cell_of-row.result c.owner_of-owner.result.component c.in-Some.k
     (c.requires.edges.known _ c.cell_of-row.result c.cell_of-row.ensures) c.owner_of-owner.ensures c.in-Some.is in
     let known = c.requires.sides.known c.in-Some.k c.cell_of-row.result of_k in
-    listed_put c.args.regions.now c.args.edges.now c.args.cycles.now c.args.self.now _ c.args.at c.in-Some.k
+    listed_put c.args.regions.now c.args.walks.now.table c.args.cycles.now c.args.self.now _ c.args.at c.in-Some.k
     (get_or c.args.cycles.now c.args.at none) c.requires.listed c.requires.at (slice_get-get_or c.args.cycles.now c.args.at none c.requires.at)
     (c.cell_of-row.result, c.cell_of-row.ensures, of_k) known
     (ap (set c.args.self.now.links.items c.args.at) (c.index.ensures
